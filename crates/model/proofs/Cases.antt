@@ -1,0 +1,33 @@
+-- The [P] table and the table of misreadings, each computed from the definitions that the promises use. Assumes nothing.
+use mathlib.Core.Path.{_≡_, refl}
+use mathlib.Core.List.{List, map}
+use Prim.Native.Nat.{ℕ}
+use native.Mathlib.Decide.{ℕ-discrete}
+use Rattle.model.specs.Lists
+use Rattle.model.specs.Term
+use Rattle.model.specs.Rules
+use Rattle.model.specs.Format
+use Rattle.model.specs.Triggers
+use Rattle.model.specs.Blocking
+use Rattle.model.specs.Stages
+use Rattle.model.specs.Tables
+use Rattle.model.specs.Tables.{Checked, checked}
+use Rattle.model.specs.Text
+use Rattle.model.specs.Text.{printed}
+use Rattle.model.specs.Cases.{Case, terms₀, facts₀, expected, expectedTables, cases, riverBytes, riverText, misreadings}
+
+-- `checked`, with every definition that it rests on open
+run : List ℕ → Checked
+unfolding ℕ-discrete Lists.all Lists.any Lists.keep Lists.extend Lists.index Lists.collect Lists.member Lists.padded Lists.row Term.same Term.list Term.terms Term.size Term.functions Term.cyclic Rules.variablesOf Rules.inBody Rules.universal Rules.frontier Rules.existential Rules.existentialFree Rules.datalog Rules.blockable Rules.repeated Rules.detached Rules.disjunctsFrom Rules.countSkolem Rules.entriesFrom Rules.entries Rules.owns Format.andThen Format.byte Format.many Format.variable Format.atom Format.atoms Format.sound Format.rule Format.stated Format.ruleSet Format.read Triggers.sameAll Triggers.sameFact Triggers.present Triggers.termsOf Triggers.assign Triggers.instantiate Triggers.assignments Triggers.holds Triggers.triggers Triggers.headTerm Triggers.headFacts Triggers.output Blocking.rename Blocking.renamed Blocking.template Blocking.origin Blocking.made Blocking.datalogOutput Blocking.saturate Blocking.testBase Blocking.testSet Blocking.blocked Stages.critical Stages.triggersIn Stages.contribution Stages.outputs Stages.grown Stages.stage Stages.cyclicTerms Stages.sizeOf Stages.tooLarge Stages.tooMany Stages.judge Stages.verdict Tables.number Tables.termRow Tables.factRow Tables.fronted Tables.recorded Tables.left Tables.checked
+run bytes = checked bytes terms₀ facts₀
+
+-- Rows 2 to 10, River and Lake: verdict, stage, counts, place and both tables; and the text of River.
+pub p-table :
+    (map (λ (c : Case). checked (c .bytes) terms₀ facts₀) cases ≡ map expected cases) × (printed riverBytes ≡ riverText)
+unfolding run cases expected expectedTables riverBytes riverText Text.digits Text.decimal Text.line Text.termNumbers Text.factNumbers Text.lines Text.records Text.text Text.declared Text.textOf Text.printed
+p-table = (refl, refl)
+
+-- The books that tell the misreadings apart: verdict, stage, counts and both tables.
+pub not-misread : map (λ (c : Case). checked (c .bytes) terms₀ facts₀) misreadings ≡ map expected misreadings
+unfolding run misreadings expected expectedTables
+not-misread = refl

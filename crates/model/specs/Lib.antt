@@ -1,0 +1,16 @@
+pub mod Lists
+pub mod Term
+pub mod Rules
+pub mod WellFormed
+pub mod Format
+pub mod Form
+pub mod Triggers
+pub mod Blocking
+pub mod Stages
+pub mod Tables
+pub mod Spelled
+pub mod Text
+pub mod Published
+pub mod Chase
+pub mod Demand
+pub mod Cases

@@ -1,0 +1,72 @@
+-- What the check leaves in the caller's two tables (document 01, "Lent lists"). Assumes nothing.
+use mathlib.Core.List.{List, [], _∷_, _++_, map}
+use mathlib.Core.Bool.{Bool, true, false, _&&_}
+use Prim.Native.Nat.{ℕ, zero, suc, _-_}
+use lib.Dec.{leb}
+use lib.ListN.{length, take, drop, replicate}
+use Rattle.model.specs.Lists.{collect, index, padded}
+use Rattle.model.specs.Term.{Term, Terms, star, constant, apart, fresh, skolem, list, same}
+use Rattle.model.specs.Rules.{RuleSet, entries}
+use Rattle.model.specs.Format.{Parsed, good, bad, read}
+use Rattle.model.specs.Triggers.{Fact}
+use Rattle.model.specs.Stages.{Stage, stage, Verdict, accepted, looping, refused, verdict, cyclicTerms}
+
+-- the front parts, in numbers
+abbrev pub termsFront : ℕ
+termsFront = 5130
+
+abbrev pub factsFront : ℕ
+factsFront = 10240
+
+-- the number of a term: where it stands among the stage's terms
+unfoldable pub number : List Term → Term → ℕ
+number ts t = index same t ts
+
+-- the Skolem function (0 for ⋆), its arity, and eight argument numbers
+unfoldable pub termRow : List Term → Term → List ℕ
+termRow ts star = replicate 10 0
+termRow ts (constant c) = replicate 10 0
+termRow ts (apart p) = replicate 10 0
+termRow ts (fresh t v) = replicate 10 0
+termRow ts (skolem f us) = padded 10 (f ∷ length (list us) ∷ map (number ts) (list us))
+
+-- the predicate and four argument numbers
+unfoldable pub factRow : List Term → Fact → List ℕ
+factRow ts f = padded 5 (f .predicate ∷ map (number ts) (f .arguments))
+
+-- the front of a table, of n numbers, is replaced: records first, zeros after
+unfoldable pub fronted : ℕ → List ℕ → List ℕ → List ℕ
+fronted n xs table = padded n xs ++ drop n table
+
+pub record Checked : Type 0 where
+  pub verdict : Verdict
+  pub terms : List ℕ
+  pub facts : List ℕ
+
+-- the records of a stage, some more terms' after its own
+unfoldable pub recorded : Verdict → Stage → List Term → List ℕ → List ℕ → Checked
+recorded v s us terms₀ facts₀ =
+    record {
+      verdict = v;
+      terms = fronted termsFront (collect (termRow (s .terms)) (s .terms ++ us)) terms₀;
+      facts = fronted factsFront (collect (factRow (s .terms)) (s .facts)) facts₀;
+    }
+
+-- accepted: that stage. Cyclic: the last stage made, and after its terms the first cyclic term of the next. Refused: zeros
+unfoldable pub left : RuleSet → Verdict → List ℕ → List ℕ → Checked
+left b (accepted n f t) terms₀ facts₀ = recorded (accepted n f t) (stage b n) [] terms₀ facts₀
+left b (looping n f t) terms₀ facts₀ =
+    let s : Stage = stage b (n - 1) in recorded (looping n f t) s (take 1 (cyclicTerms (entries b) s)) terms₀ facts₀
+left b (refused n p) terms₀ facts₀ = record { verdict = refused n p; terms = fronted termsFront [] terms₀; facts = fronted factsFront [] facts₀ }
+
+-- everything that `check` answers and leaves behind: refusal 1 first, and 1 to 10 change nothing
+unfoldable pub checked : List ℕ → List ℕ → List ℕ → Checked
+checked bytes terms₀ facts₀ =
+    elim (leb termsFront (length terms₀) && leb factsFront (length facts₀)) [
+      | false ↦ record { verdict = refused 1 0; terms = terms₀; facts = facts₀ }
+      | true ↦
+          elim (read bytes) [
+            | bad n p ↦ record { verdict = refused n p; terms = terms₀; facts = facts₀ }
+            | good b i ↦ left b (verdict b) terms₀ facts₀
+          ]
+    ]
