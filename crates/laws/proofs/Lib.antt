@@ -1,0 +1,6 @@
+pub mod Bools
+pub mod Lists
+pub mod Terms
+pub mod Facts
+pub mod Rules
+pub mod Triggers

@@ -1,0 +1,254 @@
+-- Laws of the list functions that the definitions share: which elements they have, in which order, and that none comes twice.
+-- Assumes nothing.
+use mathlib.Core.Path.{_≡_, refl, sym, ap, _∙_, subst}
+use mathlib.Core.Bool.{Bool, true, false, _&&_, _||_}
+use mathlib.Core.List.{List, [], _∷_, _++_, map, append-assoc, List·Memᴰ, List·Memᴰ·head, List·Memᴰ·tail, List·Memᴰ·cases-cons, List·Memᴰ·append-cases, List·Memᴰ·not-nil, Memᴰ·append-left, Memᴰ·append-right, Memᴰ·cast, List·Memᴰ·eq-of-singleton}
+use mathlib.Core.Logic.{_⊎_, inl, inr, ⊎-elim}
+use Prim.Native.Nat.{ℕ, zero, suc, _+_, _≤_, _<_}
+use native.Mathlib.Omega.{arith}
+use lib.Dec.{eqb}
+use lib.ListN.{length, getD, length-append}
+use borrow.Author.Tests.{eqb-true, eq-eqb}
+use Rattle.model.specs.Lists.{all, any, keep, extend, index, collect, member}
+use Rattle.laws.proofs.Bools.{case, not-both, and-true, true-and, or-true, or-left, or-right, or-false, is-false}
+
+module _ {ℓ} {A : Type ℓ} where
+  -- `any`, `all` and `keep` by elements
+
+  pub any-mem : (p : A → Bool) (xs : List A) → any p xs ≡ true → (x : A) × List·Memᴰ x xs × (p x ≡ true)
+  unfolding any
+  any-mem p [] h = not-both false h refl
+  any-mem p (x ∷ xs) h = go (λ k. any-mem p xs k) (or-true (p x) (any p xs) h)
+    where
+      go : (any p xs ≡ true → (y : A) × List·Memᴰ y xs × (p y ≡ true)) → (p x ≡ true) ⊎ (any p xs ≡ true)
+          → (y : A) × List·Memᴰ y (x ∷ xs) × (p y ≡ true)
+      go below (inl e) = (x, List·Memᴰ·head refl, e)
+      go below (inr e) = let (y, m, k) = below e in (y, List·Memᴰ·tail m, k)
+
+  pub mem-any : (p : A → Bool) {x : A} {xs : List A} → List·Memᴰ x xs → p x ≡ true → any p xs ≡ true
+  unfolding any
+  mem-any p (List·Memᴰ·head {x = y} {xs = ys} e) h = or-left (p y) (any p ys) (ap p (sym e) ∙ h)
+  mem-any p (List·Memᴰ·tail {x = y} {xs = ys} m) h = or-right (p y) (any p ys) (mem-any p m h)
+
+  pub any-false : (p : A → Bool) {x : A} {xs : List A} → any p xs ≡ false → List·Memᴰ x xs → p x ≡ false
+  any-false p {x} {xs} h m = is-false (p x) (λ e. not-both (any p xs) (mem-any p m e) h)
+
+  pub false-any : (p : A → Bool) (xs : List A) → ((x : A) → List·Memᴰ x xs → p x ≡ false) → any p xs ≡ false
+  false-any p xs h = is-false (any p xs) (λ e. let (x, m, k) = any-mem p xs e in not-both (p x) k (h x m))
+
+  pub all-mem : (p : A → Bool) {x : A} {xs : List A} → all p xs ≡ true → List·Memᴰ x xs → p x ≡ true
+  unfolding all
+  all-mem p h (List·Memᴰ·head {x = y} {xs = ys} e) = ap p e ∙ and-true (p y) (all p ys) h .0
+  all-mem p h (List·Memᴰ·tail {x = y} {xs = ys} m) = all-mem p (and-true (p y) (all p ys) h .1) m
+
+  pub mem-all : (p : A → Bool) (xs : List A) → ((x : A) → List·Memᴰ x xs → p x ≡ true) → all p xs ≡ true
+  unfolding all
+  mem-all p [] h = refl
+  mem-all p (x ∷ xs) h = true-and (p x) (all p xs) (h x (List·Memᴰ·head refl)) (mem-all p xs (λ y m. h y (List·Memᴰ·tail m)))
+
+  pub keep-yes : (p : A → Bool) (x : A) (xs : List A) → p x ≡ true → keep p (x ∷ xs) ≡ x ∷ keep p xs
+  unfolding keep
+  keep-yes p x xs e = rw (e, keep)
+
+  pub keep-no : (p : A → Bool) (x : A) (xs : List A) → p x ≡ false → keep p (x ∷ xs) ≡ keep p xs
+  unfolding keep
+  keep-no p x xs e = rw (e, keep)
+
+  pub mem-keep : (p : A → Bool) {x : A} {xs : List A} → List·Memᴰ x xs → p x ≡ true → List·Memᴰ x (keep p xs)
+  mem-keep p {x} (List·Memᴰ·head {x = y} {xs = ys} e) h = rw (keep-yes p y ys (ap p (sym e) ∙ h)) (List·Memᴰ·head e)
+  mem-keep p {x} (List·Memᴰ·tail {x = y} {xs = ys} m) h = go (mem-keep p m h) (case (p y))
+    where
+      go : List·Memᴰ x (keep p ys) → (p y ≡ true) ⊎ (p y ≡ false) → List·Memᴰ x (keep p (y ∷ ys))
+      go k (inl e) = rw (keep-yes p y ys e) (List·Memᴰ·tail k)
+      go k (inr e) = rw (keep-no p y ys e) k
+
+  pub keep-mem : (p : A → Bool) {x : A} (xs : List A) → List·Memᴰ x (keep p xs) → List·Memᴰ x xs × (p x ≡ true)
+  unfolding keep
+  keep-mem p [] m = absurd (List·Memᴰ·not-nil m)
+  keep-mem p {x} (y ∷ ys) m = go (λ k. keep-mem p ys k) (case (p y))
+    where
+      first : p y ≡ true → (x ≡ y) ⊎ List·Memᴰ x (keep p ys) → (List·Memᴰ x (keep p ys) → List·Memᴰ x ys × (p x ≡ true))
+          → List·Memᴰ x (y ∷ ys) × (p x ≡ true)
+      first e (inl k) below = (List·Memᴰ·head k, ap p k ∙ e)
+      first e (inr k) below = let (i, j) = below k in (List·Memᴰ·tail i, j)
+
+      go : (List·Memᴰ x (keep p ys) → List·Memᴰ x ys × (p x ≡ true)) → (p y ≡ true) ⊎ (p y ≡ false) → List·Memᴰ x (y ∷ ys) × (p x ≡ true)
+      go below (inl e) = first e (List·Memᴰ·cases-cons (rw (keep-yes p y ys e) at m)) below
+      go below (inr e) = let (i, j) = below (rw (keep-no p y ys e) at m) in (List·Memᴰ·tail i, j)
+
+module _ {ℓ ℓ′} {A : Type ℓ} {B : Type ℓ′} where
+  -- `collect` and `map` by elements
+
+  pub mem-collect : (f : A → List B) {x : A} {xs : List A} {y : B} → List·Memᴰ x xs → List·Memᴰ y (f x) → List·Memᴰ y (collect f xs)
+  unfolding collect
+  mem-collect f {y = y} (List·Memᴰ·head {x = z} {xs = zs} e) m = Memᴰ·append-left (collect f zs) (subst (λ (w : A). List·Memᴰ y (f w)) e m)
+  mem-collect f (List·Memᴰ·tail {x = z} {xs = zs} k) m = Memᴰ·append-right (f z) (mem-collect f k m)
+
+  pub collect-mem : (f : A → List B) {y : B} (xs : List A) → List·Memᴰ y (collect f xs) → (x : A) × List·Memᴰ x xs × List·Memᴰ y (f x)
+  unfolding collect
+  collect-mem f [] m = absurd (List·Memᴰ·not-nil m)
+  collect-mem f {y} (x ∷ xs) m = go (λ k. collect-mem f xs k) (List·Memᴰ·append-cases (f x) m)
+    where
+      go : (List·Memᴰ y (collect f xs) → (z : A) × List·Memᴰ z xs × List·Memᴰ y (f z)) → List·Memᴰ y (f x) ⊎ List·Memᴰ y (collect f xs)
+          → (z : A) × List·Memᴰ z (x ∷ xs) × List·Memᴰ y (f z)
+      go below (inl k) = (x, List·Memᴰ·head refl, k)
+      go below (inr k) = let (z, i, j) = below k in (z, List·Memᴰ·tail i, j)
+
+  pub collect-append : (f : A → List B) (xs ys : List A) → collect f (xs ++ ys) ≡ collect f xs ++ collect f ys
+  unfolding collect
+  collect-append f [] ys = refl
+  collect-append f (x ∷ xs) ys = rw (collect-append f xs ys, append-assoc)
+
+  pub mem-map : (f : A → B) {x : A} {xs : List A} → List·Memᴰ x xs → List·Memᴰ (f x) (map f xs)
+  mem-map f (List·Memᴰ·head e) = List·Memᴰ·head (ap f e)
+  mem-map f (List·Memᴰ·tail m) = List·Memᴰ·tail (mem-map f m)
+
+  pub map-mem : (f : A → B) {y : B} (xs : List A) → List·Memᴰ y (map f xs) → (x : A) × List·Memᴰ x xs × (y ≡ f x)
+  map-mem f [] m = absurd (List·Memᴰ·not-nil m)
+  map-mem f {y} (x ∷ xs) m = go (λ k. map-mem f xs k) (List·Memᴰ·cases-cons m)
+    where
+      go : (List·Memᴰ y (map f xs) → (z : A) × List·Memᴰ z xs × (y ≡ f z)) → (y ≡ f x) ⊎ List·Memᴰ y (map f xs)
+          → (z : A) × List·Memᴰ z (x ∷ xs) × (y ≡ f z)
+      go below (inl e) = (x, List·Memᴰ·head refl, e)
+      go below (inr k) = let (z, i, j) = below k in (z, List·Memᴰ·tail i, j)
+
+-- A test of equality that is one.
+pub record Decides {ℓ} {A : Type ℓ} (eq : A → A → Bool) : Type ℓ where
+  pub sound : (x y : A) → eq x y ≡ true → x ≡ y
+  pub complete : (x : A) → eq x x ≡ true
+
+pub eqb-decides : Decides eqb
+eqb-decides = record { sound = eqb-true; complete = λ x. eq-eqb x x refl }
+
+pub member-mem : (x : ℕ) (xs : List ℕ) → member x xs ≡ true → List·Memᴰ x xs
+unfolding member
+member-mem x xs h = let (y, m, e) = any-mem (eqb x) xs h in Memᴰ·cast (eqb-true x y e) m
+
+pub mem-member : {x : ℕ} {xs : List ℕ} → List·Memᴰ x xs → member x xs ≡ true
+unfolding member
+mem-member {x} m = mem-any (eqb x) m (eq-eqb x x refl)
+
+module _ {ℓ} {A : Type ℓ} where
+  -- no element twice
+  pub data Distinct : List A → Type ℓ where
+    none : Distinct []
+    one : {x : A} {xs : List A} → (List·Memᴰ x xs → ⊥) → Distinct xs → Distinct (x ∷ xs)
+
+  pub distinct-snoc : {xs : List A} (y : A) → Distinct xs → (List·Memᴰ y xs → ⊥) → Distinct (xs ++ (y ∷ []))
+  distinct-snoc y none h = one List·Memᴰ·not-nil none
+  distinct-snoc y (one {x = x} {xs = xs} n d) h =
+      one
+      (λ m. ⊎-elim (λ (k : List·Memᴰ x xs). n k) (λ (k : List·Memᴰ x (y ∷ [])). h (List·Memᴰ·head (sym (List·Memᴰ·eq-of-singleton k)))) (List·Memᴰ·append-cases xs m))
+      (distinct-snoc y d (λ m. h (List·Memᴰ·tail m)))
+
+  module _ (eq : A → A → Bool) (dec : Decides eq) where
+    pub mem-eq-any : {x : A} {xs : List A} → List·Memᴰ x xs → any (eq x) xs ≡ true
+    mem-eq-any {x} m = mem-any (eq x) m (dec .complete x)
+
+    pub any-eq-mem : (x : A) (xs : List A) → any (eq x) xs ≡ true → List·Memᴰ x xs
+    any-eq-mem x xs h = let (y, m, e) = any-mem (eq x) xs h in Memᴰ·cast (dec .sound x y e) m
+
+    pub any-eq-not-mem : {x : A} {xs : List A} → any (eq x) xs ≡ false → List·Memᴰ x xs → ⊥
+    any-eq-not-mem {x} {xs} h m = not-both (any (eq x) xs) (mem-eq-any m) h
+
+  -- `extend`: what was there stays in front, and what is added is new
+  module _ (eq : A → A → Bool) where
+    pub extend-old : (xs : List A) (y : A) (ys : List A) → any (eq y) xs ≡ true → extend eq xs (y ∷ ys) ≡ extend eq xs ys
+    unfolding extend
+    extend-old xs y ys e = rw (e, extend)
+
+    pub extend-new : (xs : List A) (y : A) (ys : List A) → any (eq y) xs ≡ false → extend eq xs (y ∷ ys) ≡ extend eq (xs ++ (y ∷ [])) ys
+    unfolding extend
+    extend-new xs y ys e = rw (e, extend)
+
+    pub extend-prefix : (xs ys : List A) → (zs : List A) × (extend eq xs ys ≡ xs ++ zs)
+    unfolding extend
+    extend-prefix xs [] = ([], sym (mathlib.Core.List.append-nil xs))
+    extend-prefix xs (y ∷ ys) = go (λ ws. extend-prefix ws ys) (case (any (eq y) xs))
+      where
+        go : ((ws : List A) → (zs : List A) × (extend eq ws ys ≡ ws ++ zs)) → (any (eq y) xs ≡ true) ⊎ (any (eq y) xs ≡ false)
+            → (zs : List A) × (extend eq xs (y ∷ ys) ≡ xs ++ zs)
+        go below (inl e) = let (zs, k) = below xs in (zs, extend-old xs y ys e ∙ k)
+        go below (inr e) = let (zs, k) = below (xs ++ (y ∷ [])) in (y ∷ zs, extend-new xs y ys e ∙ k ∙ append-assoc xs (y ∷ []) zs)
+
+    pub extend-left : {x : A} {xs : List A} (ys : List A) → List·Memᴰ x xs → List·Memᴰ x (extend eq xs ys)
+    extend-left {x} {xs} ys m = let (zs, k) = extend-prefix xs ys in rw k (Memᴰ·append-left zs m)
+
+    pub extend-length : (xs ys : List A) → length xs ≤ length (extend eq xs ys)
+    extend-length xs ys = let (zs, k) = extend-prefix xs ys in rw (k, length-append) (omega arith)
+
+    pub extend-mem : {x : A} (xs ys : List A) → List·Memᴰ x (extend eq xs ys) → List·Memᴰ x xs ⊎ List·Memᴰ x ys
+    unfolding extend
+    extend-mem xs [] m = inl m
+    extend-mem {x} xs (y ∷ ys) m = go (λ ws k. extend-mem ws ys k) (case (any (eq y) xs))
+      where
+        place : List·Memᴰ x (xs ++ (y ∷ [])) ⊎ List·Memᴰ x ys → List·Memᴰ x xs ⊎ List·Memᴰ x (y ∷ ys)
+        place (inl k) = ⊎-elim (λ (i : List·Memᴰ x xs). inl i) (λ (i : List·Memᴰ x (y ∷ [])). inr (List·Memᴰ·head (List·Memᴰ·eq-of-singleton i))) (List·Memᴰ·append-cases xs k)
+        place (inr k) = inr (List·Memᴰ·tail k)
+
+        later : List·Memᴰ x xs ⊎ List·Memᴰ x ys → List·Memᴰ x xs ⊎ List·Memᴰ x (y ∷ ys)
+        later (inl k) = inl k
+        later (inr k) = inr (List·Memᴰ·tail k)
+
+        go : ((ws : List A) → List·Memᴰ x (extend eq ws ys) → List·Memᴰ x ws ⊎ List·Memᴰ x ys)
+            → (any (eq y) xs ≡ true) ⊎ (any (eq y) xs ≡ false) → List·Memᴰ x xs ⊎ List·Memᴰ x (y ∷ ys)
+        go below (inl e) = later (below xs (rw (extend-old xs y ys e) at m))
+        go below (inr e) = place (below (xs ++ (y ∷ [])) (rw (extend-new xs y ys e) at m))
+
+  module _ (eq : A → A → Bool) (dec : Decides eq) where
+    pub extend-right : {x : A} (xs : List A) {ys : List A} → List·Memᴰ x ys → List·Memᴰ x (extend eq xs ys)
+    extend-right {x} xs (List·Memᴰ·head {x = y} {xs = ys} e) = go (case (any (eq y) xs))
+      where
+        go : (any (eq y) xs ≡ true) ⊎ (any (eq y) xs ≡ false) → List·Memᴰ x (extend eq xs (y ∷ ys))
+        go (inl k) = rw (extend-old eq xs y ys k) (extend-left eq ys (Memᴰ·cast e (any-eq-mem eq dec y xs k)))
+        go (inr k) = rw (extend-new eq xs y ys k) (extend-left eq ys (Memᴰ·append-right xs (List·Memᴰ·head e)))
+    extend-right {x} xs (List·Memᴰ·tail {x = y} {xs = ys} m) = go (λ ws. extend-right ws m) (case (any (eq y) xs))
+      where
+        go : ((ws : List A) → List·Memᴰ x (extend eq ws ys)) → (any (eq y) xs ≡ true) ⊎ (any (eq y) xs ≡ false) → List·Memᴰ x (extend eq xs (y ∷ ys))
+        go below (inl k) = rw (extend-old eq xs y ys k) (below xs)
+        go below (inr k) = rw (extend-new eq xs y ys k) (below (xs ++ (y ∷ [])))
+
+    pub extend-distinct : {xs : List A} (ys : List A) → Distinct xs → Distinct (extend eq xs ys)
+    unfolding extend
+    extend-distinct [] d = d
+    extend-distinct {xs} (y ∷ ys) d = go (λ ws k. extend-distinct ys k) (case (any (eq y) xs))
+      where
+        go : ((ws : List A) → Distinct ws → Distinct (extend eq ws ys)) → (any (eq y) xs ≡ true) ⊎ (any (eq y) xs ≡ false) → Distinct (extend eq xs (y ∷ ys))
+        go below (inl e) = rw (extend-old eq xs y ys e) (below xs d)
+        go below (inr e) = rw (extend-new eq xs y ys e) (below (xs ++ (y ∷ [])) (distinct-snoc y d (any-eq-not-mem eq dec e)))
+
+    -- as long as before: nothing was new
+    pub extend-same-length : (xs ys : List A) → length (extend eq xs ys) ≡ length xs → (y : A) → List·Memᴰ y ys → List·Memᴰ y xs
+    extend-same-length xs ys e y m = go (extend-prefix eq xs ys)
+      where
+        shorter : (zs : List A) → extend eq xs ys ≡ xs ++ zs → length zs ≡ 0
+        shorter zs k = omega (arith, length-append xs zs, ap length k)
+
+        empty : (zs : List A) → length zs ≡ 0 → List·Memᴰ y zs → ⊥
+        empty [] h n = List·Memᴰ·not-nil n
+        empty (z ∷ zs) h n = omega arith
+
+        go : (zs : List A) × (extend eq xs ys ≡ xs ++ zs) → List·Memᴰ y xs
+        go (zs, k) =
+            ⊎-elim (λ (i : List·Memᴰ y xs). i) (λ (i : List·Memᴰ y zs). absurd (empty zs (shorter zs k) i))
+            (List·Memᴰ·append-cases xs (rw k at (extend-right xs m)))
+
+    -- `index` finds an element that is there
+
+    pub index-here : (x y : A) (ys : List A) → eq x y ≡ true → index eq x (y ∷ ys) ≡ 0
+    unfolding index
+    index-here x y ys e = rw (e, index)
+
+    pub index-there : (x y : A) (ys : List A) → eq x y ≡ false → index eq x (y ∷ ys) ≡ suc (index eq x ys)
+    unfolding index
+    index-there x y ys e = rw (e, index)
+
+    pub index-mem : (x : A) (xs : List A) (d : A) → List·Memᴰ x xs → (index eq x xs < length xs) × (getD xs (index eq x xs) d ≡ x)
+    index-mem x [] d m = absurd (List·Memᴰ·not-nil m)
+    index-mem x (y ∷ ys) d m = go (λ k. index-mem x ys d k) (case (eq x y)) (List·Memᴰ·cases-cons m)
+      where
+        go : (List·Memᴰ x ys → (index eq x ys < length ys) × (getD ys (index eq x ys) d ≡ x)) → (eq x y ≡ true) ⊎ (eq x y ≡ false)
+            → (x ≡ y) ⊎ List·Memᴰ x ys → (index eq x (y ∷ ys) < length (y ∷ ys)) × (getD (y ∷ ys) (index eq x (y ∷ ys)) d ≡ x)
+        go below (inl e) k = rw (index-here x y ys e) (omega arith, sym (dec .sound x y e))
+        go below (inr e) (inl k) = not-both (eq x y) (subst (λ (w : A). eq x w ≡ true) k (dec .complete x)) e
+        go below (inr e) (inr k) = rw (index-there x y ys e) (let h = below k in (omega arith, h .1))

@@ -1,0 +1,165 @@
+-- Laws of a rule's variables and of the numbered entries. Assumes nothing.
+use mathlib.Core.Path.{_≡_, refl, sym, ap, _∙_, subst}
+use mathlib.Core.Bool.{Bool, true, false, _&&_, not}
+use mathlib.Core.Logic.{_⊎_, inl, inr, ⊎-elim}
+use mathlib.Core.List.{List, [], _∷_, List·Memᴰ, List·Memᴰ·head, List·Memᴰ·tail, List·Memᴰ·not-nil, List·Memᴰ·cases-cons}
+use Prim.Native.Nat.{ℕ, zero, suc, _+_, _≤_, _<_}
+use native.Mathlib.Omega.{arith}
+use lib.Dec.{eqb}
+use lib.ListN.{length}
+use native.Mathlib.Decide.{decLt}
+use borrow.Author.Tests.{not-true}
+use Rattle.model.specs.Lists.{all, any, keep, collect, member}
+use Rattle.model.specs.Rules.{Atom, Rule, RuleSet, Disjunct, Entry, names, variablesOf, inBody, universal, frontier, existential, repeated, detached, disjunctsFrom, countSkolem, entriesFrom, entries}
+use Rattle.model.specs.WellFormed.{WellFormedAtom, WellFormedAtoms, WellFormedRule, WellFormed}
+use Rattle.laws.proofs.Bools.{and-true, true-and, case, not-both}
+use Rattle.laws.proofs.Lists.{keep-yes, keep-no, mem-keep, keep-mem, mem-member, member-mem, mem-any, any-mem, any-false, mem-collect, collect-mem, Distinct, none, one}
+
+-- n numbers from one on
+rising : ℕ → ℕ → List ℕ
+rising k zero = []
+rising k (suc n) = k ∷ rising (suc k) n
+
+rising-above : (k n v : ℕ) → List·Memᴰ v (rising k n) → k ≤ v
+unfolding rising
+rising-above k zero v m = absurd (List·Memᴰ·not-nil m)
+rising-above k (suc n) v m =
+    ⊎-elim (λ (e : v ≡ k). omega arith) (λ (i : List·Memᴰ v (rising (suc k) n)). let h = rising-above (suc k) n v i in omega arith) (List·Memᴰ·cases-cons m)
+
+rising-distinct : (k n : ℕ) → Distinct (rising k n)
+unfolding rising
+rising-distinct k zero = none
+rising-distinct k (suc n) = one (λ m. let h = rising-above (suc k) n k m in omega arith) (rising-distinct (suc k) n)
+
+mem-rising : (k n v : ℕ) → k ≤ v → v < k + n → List·Memᴰ v (rising k n)
+unfolding rising
+mem-rising k zero v h l = absurd (omega arith)
+mem-rising k (suc n) v h l = go (λ i. mem-rising (suc k) n v i (omega arith)) (decLt k v)
+  where
+    go : (k < v → List·Memᴰ v (rising (suc k) n)) → Dec (k < v) → List·Memᴰ v (k ∷ rising (suc k) n)
+    go below (yes i) = List·Memᴰ·tail (below i)
+    go below (no i) = let e : v ≡ k = omega arith in List·Memᴰ·head e
+
+-- the variables are the numbers up to 7, each once
+
+pub mem-names : (v : ℕ) → v ≤ 7 → List·Memᴰ v names
+unfolding rising
+mem-names v h = mem-rising 0 8 v (omega arith) (omega arith)
+
+pub names-distinct : Distinct names
+unfolding rising
+names-distinct = rising-distinct 0 8
+
+pub keep-distinct : (p : ℕ → Bool) {xs : List ℕ} → Distinct xs → Distinct (keep p xs)
+unfolding keep
+keep-distinct p none = none
+keep-distinct p (one {x = x} {xs = xs} n d) = go (keep-distinct p d) (case (p x))
+  where
+    go : Distinct (keep p xs) → (p x ≡ true) ⊎ (p x ≡ false) → Distinct (keep p (x ∷ xs))
+    go k (inl e) = rw (keep-yes p x xs e) (one (λ m. n (keep-mem p xs m .0)) k)
+    go k (inr e) = rw (keep-no p x xs e) k
+
+-- a rule's variable sets by their elements
+
+pub inBody-mem : (r : Rule) (v : ℕ) → inBody r v ≡ true → List·Memᴰ v (variablesOf (r .body))
+unfolding inBody
+inBody-mem r v h = member-mem v (variablesOf (r .body)) h
+
+pub mem-inBody : (r : Rule) {v : ℕ} → List·Memᴰ v (variablesOf (r .body)) → inBody r v ≡ true
+unfolding inBody
+mem-inBody r m = mem-member m
+
+pub mem-variablesOf : {v : ℕ} {a : Atom} {as' : List Atom} → List·Memᴰ a as' → List·Memᴰ v (a .variables) → List·Memᴰ v (variablesOf as')
+unfolding variablesOf
+mem-variablesOf m k = mem-collect (λ (a : Atom). a .variables) m k
+
+pub variablesOf-mem : {v : ℕ} (as' : List Atom) → List·Memᴰ v (variablesOf as') → (a : Atom) × List·Memᴰ a as' × List·Memᴰ v (a .variables)
+unfolding variablesOf
+variablesOf-mem as' m = collect-mem (λ (a : Atom). a .variables) as' m
+
+pub universal-mem : (r : Rule) {v : ℕ} → List·Memᴰ v (universal r) → inBody r v ≡ true
+unfolding universal
+universal-mem r m = keep-mem (inBody r) names m .1
+
+pub mem-universal : (r : Rule) {v : ℕ} → v ≤ 7 → inBody r v ≡ true → List·Memᴰ v (universal r)
+unfolding universal
+mem-universal r {v} h e = mem-keep (inBody r) (mem-names v h) e
+
+pub universal-distinct : (r : Rule) → Distinct (universal r)
+unfolding universal
+universal-distinct r = keep-distinct (inBody r) names-distinct
+
+abbrev inHead : Rule → ℕ → Bool
+inHead r v = any (λ (d : List Atom). member v (variablesOf d)) (r .head)
+
+pub frontier-mem : (r : Rule) {v : ℕ} → List·Memᴰ v (frontier r) → List·Memᴰ v (universal r)
+unfolding frontier universal
+frontier-mem r {v} m =
+    let (k, e) = keep-mem (λ (v : ℕ). inBody r v && inHead r v) names m in
+    mem-keep (inBody r) k (and-true (inBody r v) (inHead r v) e .0)
+
+pub mem-frontier : (r : Rule) {v : ℕ} {d : List Atom} → List·Memᴰ v (universal r) → List·Memᴰ d (r .head) → List·Memᴰ v (variablesOf d)
+    → List·Memᴰ v (frontier r)
+unfolding frontier universal
+mem-frontier r {v} {d} m k n =
+    let (i, e) = keep-mem (inBody r) names m in
+    mem-keep (λ (v : ℕ). inBody r v && inHead r v) i
+    (true-and (inBody r v) (inHead r v) e (mem-any (λ (d : List Atom). member v (variablesOf d)) k (mem-member n)))
+
+pub frontier-distinct : (r : Rule) → Distinct (frontier r)
+unfolding frontier
+frontier-distinct r = keep-distinct (λ (v : ℕ). inBody r v && inHead r v) names-distinct
+
+pub existential-mem : (r : Rule) (d : List Atom) {v : ℕ} → List·Memᴰ v (existential r d) → List·Memᴰ v (variablesOf d) × (inBody r v ≡ false)
+unfolding existential
+existential-mem r d {v} m =
+    let (k, e) = keep-mem (λ (v : ℕ). member v (variablesOf d) && not (inBody r v)) names m in
+    let (i, j) = and-true (member v (variablesOf d)) (not (inBody r v)) e in
+    (member-mem v (variablesOf d) i, not-true (inBody r v) j)
+
+pub mem-existential : (r : Rule) (d : List Atom) {v : ℕ} → v ≤ 7 → List·Memᴰ v (variablesOf d) → inBody r v ≡ false → List·Memᴰ v (existential r d)
+unfolding existential
+mem-existential r d {v} h m e =
+    mem-keep (λ (v : ℕ). member v (variablesOf d) && not (inBody r v)) (mem-names v h)
+    (true-and (member v (variablesOf d)) (not (inBody r v)) (mem-member m) (rw e))
+
+pub existential-distinct : (r : Rule) (d : List Atom) → Distinct (existential r d)
+unfolding existential
+existential-distinct r d = keep-distinct (λ (v : ℕ). member v (variablesOf d) && not (inBody r v)) names-distinct
+
+-- entries and their disjuncts come from the rules
+
+pub disjunctsFrom-mem : (n : ℕ) (r : Rule) (ds : List (List Atom)) {d : Disjunct} → List·Memᴰ d (disjunctsFrom n r ds)
+    → (d .rule ≡ r) × List·Memᴰ (d .atoms) ds
+unfolding disjunctsFrom
+disjunctsFrom-mem n r [] m = absurd (List·Memᴰ·not-nil m)
+disjunctsFrom-mem n r (a ∷ as') {d} m = go (λ k. disjunctsFrom-mem (n + length (existential r a)) r as' k) (List·Memᴰ·cases-cons m)
+  where
+    go : (List·Memᴰ d (disjunctsFrom (n + length (existential r a)) r as') → (d .rule ≡ r) × List·Memᴰ (d .atoms) as')
+        → (d ≡ record { rule = r; atoms = a; before = n }) ⊎ List·Memᴰ d (disjunctsFrom (n + length (existential r a)) r as')
+        → (d .rule ≡ r) × List·Memᴰ (d .atoms) (a ∷ as')
+    go below (inl e) = (ap (λ (x : Disjunct). x .rule) e, List·Memᴰ·head (ap (λ (x : Disjunct). x .atoms) e))
+    go below (inr k) = let (i, j) = below k in (i, List·Memᴰ·tail j)
+
+-- what is known of an entry of a rule set
+pub record Entered (rs : List Rule) (e : Entry) : Type 0 where
+  pub rule : List·Memᴰ (e .rule) rs
+  pub disjuncts : (d : Disjunct) → List·Memᴰ d (e .disjuncts) → (d .rule ≡ e .rule) × List·Memᴰ (d .atoms) (e .rule .head)
+
+pub entriesFrom-mem : (n : ℕ) (rs : List Rule) {e : Entry} → List·Memᴰ e (entriesFrom n rs) → Entered rs e
+unfolding entriesFrom
+entriesFrom-mem n [] m = absurd (List·Memᴰ·not-nil m)
+entriesFrom-mem n (r ∷ rs) {e} m = go (λ k. entriesFrom-mem (n + countSkolem r (r .head)) rs k) (List·Memᴰ·cases-cons m)
+  where
+    first : Entry
+    first = record { rule = r; disjuncts = disjunctsFrom n r (r .head) }
+
+    go : (List·Memᴰ e (entriesFrom (n + countSkolem r (r .head)) rs) → Entered rs e) → (e ≡ first) ⊎ List·Memᴰ e (entriesFrom (n + countSkolem r (r .head)) rs)
+        → Entered (r ∷ rs) e
+    go below (inl k) =
+        subst (λ (x : Entry). Entered (r ∷ rs) x) (sym k) (record { rule = List·Memᴰ·head refl; disjuncts = λ d i. disjunctsFrom-mem n r (r .head) i })
+    go below (inr k) = let h = below k in record { rule = List·Memᴰ·tail (h .rule); disjuncts = h .disjuncts }
+
+pub entries-mem : (b : RuleSet) {e : Entry} → List·Memᴰ e (entries b) → Entered (b .rules) e
+unfolding entries
+entries-mem b m = entriesFrom-mem 0 (b .rules) m

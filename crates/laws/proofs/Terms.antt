@@ -1,0 +1,36 @@
+-- Laws of terms: the test of equality is one, and lists of terms in their two forms agree. Assumes nothing.
+use mathlib.Core.Path.{_≡_, refl, ap}
+use mathlib.Core.Bool.{Bool, true, false}
+use mathlib.Core.List.{List, [], _∷_, List·Memᴰ}
+use Prim.Native.Nat.{ℕ}
+use native.Mathlib.Decide.{ℕ-discrete}
+use Rattle.model.specs.Lists.{extend}
+use Rattle.model.specs.Term.{Position-discrete, Term, Terms, none, more, Term-discrete, same, list, terms}
+use Rattle.laws.proofs.Bools.{not-both}
+use Rattle.laws.proofs.Lists.{Decides, Distinct, none as distinct-none, extend-distinct, extend-right, extend-mem}
+
+pub same-decides : Decides same
+unfolding same
+same-decides =
+    record {
+      sound = λ s t h. sound s t (Term-discrete ℕ-discrete (Position-discrete ℕ-discrete) s t) h;
+      complete = λ t. complete t (Term-discrete ℕ-discrete (Position-discrete ℕ-discrete) t t);
+    }
+  where
+    sound : (s t : Term) (d : Dec (s ≡ t)) → _≡_ {A = Bool} (elim d [ yes e ↦ true | no e ↦ false ]) true → s ≡ t
+    sound s t (yes e) h = e
+    sound s t (no e) h = not-both false h refl
+
+    complete : (t : Term) (d : Dec (t ≡ t)) → _≡_ {A = Bool} (elim d [ yes e ↦ true | no e ↦ false ]) true
+    complete t (yes e) = refl
+    complete t (no e) = absurd (e refl)
+
+pub list-terms : (ts : List Term) → list (terms ts) ≡ ts
+unfolding list terms
+list-terms [] = refl
+list-terms (t ∷ ts) = ap (λ (us : List Term). t ∷ us) (list-terms ts)
+
+pub terms-list : (ts : Terms) → terms (list ts) ≡ ts
+unfolding list terms
+terms-list none = refl
+terms-list (more t ts) = ap (more t) (terms-list ts)
