@@ -1,0 +1,1 @@
+// Definitions over rows of numbers, in specs/; in proofs/, that they encode those of model.
