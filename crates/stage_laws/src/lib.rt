@@ -1,0 +1,1 @@
+// laws of stages and of the verdict, in proofs/
