@@ -1,3 +1,4 @@
 pub mod Lists
 pub mod Outputs
 pub mod Growth
+pub mod Verdict
