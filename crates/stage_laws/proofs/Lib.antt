@@ -1,4 +1,5 @@
 pub mod Lists
 pub mod Outputs
 pub mod Growth
+pub mod Rounds
 pub mod Verdict
