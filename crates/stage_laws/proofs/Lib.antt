@@ -1,5 +1,7 @@
 pub mod Lists
 pub mod Outputs
 pub mod Growth
+pub mod Arities
+pub mod Order
 pub mod Rounds
 pub mod Verdict
