@@ -1,21 +1,20 @@
 -- Facts of the stages of a well-formed rule set: each has a declared predicate and as many arguments as its arity. Assumes nothing.
 use mathlib.Core.Path.{_≡_, refl, sym, ap, _∙_, subst}
-use mathlib.Core.Bool.{Bool, true, false}
 use mathlib.Core.Logic.{_⊎_, inl, inr, ⊎-elim}
-use mathlib.Core.List.{List, [], _∷_, map, List·Memᴰ, List·Memᴰ·head, List·Memᴰ·tail, List·Memᴰ·not-nil, List·Memᴰ·cases-cons}
+use mathlib.Core.List.{List, [], _∷_, List·Memᴰ, List·Memᴰ·head, List·Memᴰ·tail, List·Memᴰ·not-nil, List·Memᴰ·cases-cons}
 use Prim.Native.Nat.{ℕ, zero, suc, _+_, _≤_, _<_}
 use native.Mathlib.Nat.{add-zero, add-suc, suc-add, zero-add}
 use native.Mathlib.Omega.{arith}
 use lib.ListN.{length, getD, replicate, length-map, length-replicate}
 use Rattle.model.specs.Term.{Term, star}
-use Rattle.model.specs.Rules.{Atom, Rule, RuleSet, Disjunct, Entry, entries, universal}
-use Rattle.model.specs.WellFormed.{WellFormedAtom, WellFormedAtoms, WellFormedRule, WellFormed}
+use Rattle.model.specs.Rules.{Atom, RuleSet, Disjunct, Entry, entries, universal}
+use Rattle.model.specs.WellFormed.{WellFormedAtom, WellFormed}
 use Rattle.model.specs.Triggers.{Fact, assign, instantiate, headTerm}
-use Rattle.model.specs.Stages.{Stage, critical, stage}
+use Rattle.model.specs.Stages.{critical, stage}
 use Rattle.laws.proofs.Facts.{fact-path}
-use Rattle.laws.proofs.Rules.{Entered, entries-mem}
+use Rattle.laws.proofs.Rules.{entries-mem}
 use Rattle.laws.proofs.Triggers.{headFacts-mem, output-mem}
-use Rattle.stage_laws.proofs.Outputs.{Fires, outputs-mem}
+use Rattle.stage_laws.proofs.Outputs.{outputs-mem}
 use Rattle.stage_laws.proofs.Growth.{outputsOf, stage-zero-facts, facts-from}
 
 -- the critical instance by its elements

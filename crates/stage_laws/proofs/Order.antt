@@ -1,30 +1,30 @@
 -- Terms of the stages of a well-formed rule set: each is ⋆ or a Skolem term over terms of the stage before, so its arguments stand before it.
 -- Assumes nothing.
 use mathlib.Core.Path.{_≡_, refl, sym, ap, _∙_, subst}
-use mathlib.Core.Bool.{Bool, true, false, not}
+use mathlib.Core.Bool.{Bool, true, false}
 use mathlib.Core.Logic.{_⊎_, inl, inr, ⊎-elim}
-use mathlib.Core.List.{List, [], _∷_, _++_, map, append-nil, List·Memᴰ, List·Memᴰ·head, List·Memᴰ·tail, List·Memᴰ·not-nil, List·Memᴰ·cases-cons, Memᴰ·append-left, Memᴰ·append-right, List·Memᴰ·eq-of-singleton}
+use mathlib.Core.List.{List, [], _∷_, _++_, map, List·Memᴰ, List·Memᴰ·head, List·Memᴰ·tail, Memᴰ·append-left, Memᴰ·append-right, List·Memᴰ·eq-of-singleton}
 use Prim.Native.Nat.{ℕ, zero, suc, _+_, _≤_, _<_}
 use native.Mathlib.Omega.{arith}
 use lib.Dec.{eqb}
-use lib.ListN.{length, getD, take, drop, length-map}
+use lib.ListN.{length, getD, take, drop, length-map, length-take}
+use lib.Seq.{split-at}
 use borrow.Author.Tests.{not-false}
-use Rattle.model.specs.Lists.{any, keep, index, extend}
+use Rattle.model.specs.Lists.{any, keep, index}
 use Rattle.model.specs.Term.{Term, Terms, star, skolem, list, terms, same}
 use Rattle.model.specs.Rules.{Atom, Rule, RuleSet, Disjunct, Entry, entries, variablesOf, inBody, universal, frontier, existential, detached}
-use Rattle.model.specs.WellFormed.{WellFormedAtom, WellFormedAtoms, WellFormedRule, WellFormed}
+use Rattle.model.specs.WellFormed.{WellFormedRule, WellFormed}
 use Rattle.model.specs.Triggers.{Fact, termsOf, assign, instantiate, headTerm}
-use Rattle.model.specs.Stages.{Stage, triggersIn, stage}
+use Rattle.model.specs.Stages.{triggersIn, stage}
 use Rattle.laws.proofs.Bools.{case}
-use Rattle.laws.proofs.Lists.{Decides, keep-yes, keep-no, any-mem, any-false, map-mem, extend-mem}
+use Rattle.laws.proofs.Lists.{keep-yes, keep-no, any-mem, any-false, map-mem, extend-mem, index-mem}
 use Rattle.laws.proofs.Terms.{same-decides, list-terms}
 use Rattle.laws.proofs.Facts.{termsOf-mem}
-use Rattle.laws.proofs.Rules.{Entered, entries-mem, mem-variablesOf, variablesOf-mem, mem-universal, mem-frontier, frontier-mem, mem-existential}
+use Rattle.laws.proofs.Rules.{entries-mem, mem-variablesOf, variablesOf-mem, mem-universal, mem-frontier, frontier-mem, mem-existential}
 use Rattle.laws.proofs.Triggers.{Assignment, assign-mem, headTerm-universal, headTerm-existential, headFacts-mem, output-mem, triggers-mem}
-use Rattle.stage_laws.proofs.Lists.{Prefix, extend-begins}
+use Rattle.stage_laws.proofs.Lists.{Prefix, index-append}
 use Rattle.stage_laws.proofs.Outputs.{Fires, outputs-mem}
 use Rattle.stage_laws.proofs.Growth.{outputsOf, stage-zero-terms, stage-suc-terms, terms-grow-once, facts-from, arguments-in-terms}
-use Rattle.stage_laws.proofs.Arities.{disjunct-well-formed}
 
 -- the frontier of a well-formed rule has one to eight variables
 
@@ -260,3 +260,15 @@ pub outputs-arguments : (b : RuleSet) → WellFormed b → (n : ℕ) {f : Fact} 
 outputs-arguments b w n {f} {g} {as'} m k t j =
     ⊎-elim (λ (i : List·Memᴰ (skolem g as') (stage b n .terms)). ordered-mem (terms-ordered b w n) i t j)
     (λ (i : Invented (entries b) (stage b n .terms) (skolem g as')). invented-old i t j) (outputs-terms b w n m k)
+
+-- the same by index
+pub ordered-index : {ts : List Term} → Ordered ts → (i : ℕ) → i < length ts → {f : ℕ} {as' : Terms} → getD ts i star ≡ skolem f as' → (t : Term)
+    → List·Memᴰ t (list as') → index same t ts < i
+ordered-index {ts} o i h {f} {as'} e t k =
+    let p : ts ≡ take i ts ++ (skolem f as' ∷ drop (suc i) ts) = split-at ts i star h ∙ ap (λ (x : Term). take i ts ++ (x ∷ drop (suc i) ts)) e in
+    let m = o (take i ts) f as' (drop (suc i) ts) p t k in
+    let q : index same t ts ≡ index same t (take i ts) =
+    ap (index same t) p ∙ index-append same same-decides t (take i ts) (skolem f as' ∷ drop (suc i) ts) m in
+    let l = index-mem same same-decides t (take i ts) star m .0 in
+    let n = length-take i ts in
+    omega arith
