@@ -1,0 +1,1 @@
+// the computed notions are the published ones, in proofs/
