@@ -1,3 +1,4 @@
 pub mod Closure
 pub mod Blocked
 pub mod Subterms
+pub mod MadeBy
