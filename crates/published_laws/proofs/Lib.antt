@@ -2,3 +2,4 @@ pub mod Closure
 pub mod Blocked
 pub mod Subterms
 pub mod MadeBy
+pub mod Invention
