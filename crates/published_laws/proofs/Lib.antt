@@ -3,3 +3,4 @@ pub mod Blocked
 pub mod Subterms
 pub mod MadeBy
 pub mod Invention
+pub mod Unblockable
