@@ -1,9 +1,10 @@
--- The computed blocking test is the published notion, where the test set is the closure. Assumes nothing.
+-- Within the limit of 1,024 facts the test set is the published closure, and the computed blocking test the published notion. Assumes nothing.
 use mathlib.Core.Path.{_≡_, refl, sym, ap, _∙_}
 use mathlib.Core.Bool.{Bool, true, false}
-use mathlib.Core.Logic.{_⊎_, inl, inr, ⊎-elim}
+use mathlib.Core.Logic.{_↔_, _⊎_, inl, inr, ⊎-elim}
 use mathlib.Core.List.{List, [], _∷_, List·Memᴰ}
-use Prim.Native.Nat.{ℕ}
+use Prim.Native.Nat.{ℕ, _≤_}
+use lib.ListN.{length}
 use Rattle.model.specs.Lists.{all, any}
 use Rattle.model.specs.Term.{Term}
 use Rattle.model.specs.Rules.{Rule, RuleSet, Disjunct, Entry, entries, universal, datalog}
@@ -13,7 +14,9 @@ use Rattle.model.specs.Published.{Closed, Blocked}
 use Rattle.laws.proofs.Bools.{case, not-both}
 use Rattle.laws.proofs.Lists.{any-mem, mem-any, all-mem, mem-all}
 use Rattle.laws.proofs.Facts.{present-mem, mem-present}
-use Rattle.published_laws.proofs.Closure.{saturate-sound}
+use Rattle.stage_laws.proofs.Lists.{prefix-mem}
+use Rattle.stage_laws.proofs.Rounds.{testSet-begins, testSet-closes}
+use Rattle.published_laws.proofs.Closure.{saturate-sound, closed-within}
 
 -- the substitution of a trigger whose terms are renamed apart
 abbrev pub apartly : Rule → List Term → ℕ → Term
@@ -42,6 +45,16 @@ module _ (b : RuleSet) where
   unfolding testSet
   test-set-sound r m k = saturate-sound b (testBase (entries b) r (renamed (universal r) m)) 1025 k
 
+  pub test-set-complete : (r : Rule) (m : List Term) {f : Fact} → length (testSet (entries b) r m) ≤ 1024
+      → Closed b (testBase (entries b) r (renamed (universal r) m)) f → List·Memᴰ f (testSet (entries b) r m)
+  test-set-complete r m h c =
+      closed-within b (testBase (entries b) r (renamed (universal r) m)) (testSet (entries b) r m) (testSet-closes (entries b) r m h)
+      (λ g i. prefix-mem (testSet-begins (entries b) r m) i) c
+
+  pub test-set-is-closure : (r : Rule) (m : List Term) (f : Fact) → length (testSet (entries b) r m) ≤ 1024
+      → List·Memᴰ f (testSet (entries b) r m) ↔ Closed b (testBase (entries b) r (renamed (universal r) m)) f
+  test-set-is-closure r m f h = (test-set-sound r m, test-set-complete r m h)
+
   pub blocked-sound : (e : Entry) (m : List Term) → blocked (entries b) e m ≡ true → Blocked b e m
   blocked-sound e m h =
       let n = blocked-not-datalog (entries b) e m h in
@@ -49,12 +62,9 @@ module _ (b : RuleSet) where
       let (d, k, a) = any-mem (λ (d : Disjunct). all (present s) (headFacts (apartly (e .rule) m) d)) (e .disjuncts) (sym (blocked-other (entries b) e m n) ∙ h) in
       (n, d, k, λ f i. test-set-sound (e .rule) m (present-mem s f (all-mem (present s) a i)))
 
-  -- a test set that holds the closure decides
-  pub blocked-whole : (e : Entry) (m : List Term)
-      → ((f : Fact) → Closed b (testBase (entries b) (e .rule) (renamed (universal (e .rule)) m)) f → List·Memᴰ f (testSet (entries b) (e .rule) m))
-      → Blocked b e m → blocked (entries b) e m ≡ true
-  blocked-whole e m h (n, d, k, c) =
+  pub blocked-complete : (e : Entry) (m : List Term) → length (testSet (entries b) (e .rule) m) ≤ 1024 → Blocked b e m → blocked (entries b) e m ≡ true
+  blocked-complete e m h (n, d, k, c) =
       let s = testSet (entries b) (e .rule) m in
       blocked-other (entries b) e m n
       ∙ mem-any (λ (d : Disjunct). all (present s) (headFacts (apartly (e .rule) m) d)) k
-      (mem-all (present s) (headFacts (apartly (e .rule) m) d) (λ f i. mem-present (h f (c f i))))
+      (mem-all (present s) (headFacts (apartly (e .rule) m) d) (λ f i. mem-present (test-set-complete (e .rule) m h (c f i))))
