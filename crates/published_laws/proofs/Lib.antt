@@ -4,3 +4,4 @@ pub mod Subterms
 pub mod MadeBy
 pub mod Invention
 pub mod Unblockable
+pub mod Dmfa
