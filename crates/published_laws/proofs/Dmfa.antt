@@ -1,19 +1,18 @@
 -- The stages are within the published DMFA set as long as test sets stay within their limit, an accepted one is that set, and a cyclic term
 -- that is shown is reached. Assumes nothing.
 use mathlib.Core.Path.{_≡_, refl, sym, ap, _∙_, subst}
-use mathlib.Core.Bool.{Bool, true, false}
+use mathlib.Core.Bool.{true, false}
 use mathlib.Core.Logic.{_↔_, _⊎_, inl, inr, ⊎-elim}
-use mathlib.Core.List.{List, [], _∷_, List·Memᴰ, List·Memᴰ·head, List·Memᴰ·eq-of-singleton}
-use Prim.Native.Nat.{ℕ, zero, suc, _+_, _≤_, _<_}
+use mathlib.Core.List.{List, [], List·Memᴰ, List·Memᴰ·head, List·Memᴰ·eq-of-singleton}
+use Prim.Native.Nat.{ℕ, zero, suc, _≤_, _<_}
 use native.Mathlib.Omega.{arith}
 use native.Mathlib.Decide.{decLt}
-use lib.ListN.{length}
 use Rattle.model.specs.Term.{Term, star, cyclic}
-use Rattle.model.specs.Rules.{Atom, Rule, RuleSet, Entry, entries, universal, blockable}
+use Rattle.model.specs.Rules.{RuleSet, Entry, entries, universal, blockable}
 use Rattle.model.specs.WellFormed.{WellFormed}
-use Rattle.model.specs.Triggers.{Fact, termsOf, assign, instantiate, output}
-use Rattle.model.specs.Blocking.{testSet, blocked}
-use Rattle.model.specs.Stages.{Stage, critical, triggersIn, stage, outputs, cyclicTerms, tooMany, Verdict, accepted, looping, refused, verdict}
+use Rattle.model.specs.Triggers.{Fact, assign, instantiate}
+use Rattle.model.specs.Blocking.{blocked}
+use Rattle.model.specs.Stages.{Stage, triggersIn, stage, cyclicTerms, tooMany, accepted, looping, refused, verdict}
 use Rattle.model.specs.Published.{Substitution, Blocked, Dmfa, start, step}
 use Rattle.laws.proofs.Bools.{case, not-both, is-false}
 use Rattle.laws.proofs.Facts.{termsOf-mem}
@@ -21,11 +20,17 @@ use Rattle.laws.proofs.Triggers.{Assignment, Loaded, triggers-mem}
 use Rattle.stage_laws.proofs.Lists.{prefix-mem}
 use Rattle.stage_laws.proofs.Outputs.{Fires, outputs-mem, mem-outputs, cyclicTerms-mem, outputs-acyclic, test-sets-within}
 use Rattle.stage_laws.proofs.Growth.{stage-zero-facts, stage-zero-terms, outputsOf, facts-from, facts-grow, outputs-added, arguments-in-terms, Named, terms-are-named}
-use Rattle.stage_laws.proofs.Verdict.{Passed, Reached, Accepted, Looping, Cause, large, many, facts, terms, Refused, accepted-says, looping-says, refused-says, reached-before, accepted-closed}
+use Rattle.stage_laws.proofs.Verdict.{Reached, Looping, Cause, large, many, facts, terms, accepted-says, looping-says, refused-says, reached-before, accepted-closed}
+use Rattle.stage_laws.proofs.Order.{Proper, proper-star, proper-skolem, terms-proper}
 use Rattle.published_laws.proofs.Closure.{loaded-trigger}
 use Rattle.published_laws.proofs.Blocked.{blocked-sound, blocked-complete}
-use Rattle.published_laws.proofs.Subterms.{Grounded}
+use Rattle.published_laws.proofs.Subterms.{Grounded, grounded-star, grounded-skolem}
 use Rattle.published_laws.proofs.Unblockable.{never-blocked}
+
+-- terms of stages are grounded
+proper-grounded : {t : Term} → Proper t → Grounded t
+proper-grounded proper-star = grounded-star
+proper-grounded (proper-skolem f some few h) = grounded-skolem some (λ t m. proper-grounded (h t m))
 
 -- the triggers of a stage, as the two notions have them
 triggersIn-mem : (s : Stage) (e : Entry) {m : List Term} → List·Memᴰ m (triggersIn s e)
@@ -89,7 +94,7 @@ pub record Witness (b : RuleSet) (n : ℕ) (u : Term) : Type 0 where
   pub first : (j : ℕ) → j < n → (v : Term) → List·Memᴰ v (stage b j .terms) → cyclic v ≡ false
 
 -- a trigger of a stage that the test lets through is not blocked
-module _ (b : RuleSet) (wf : WellFormed b) (grounded : (n : ℕ) (t : Term) → List·Memᴰ t (stage b n .terms) → Grounded t) where
+module _ (b : RuleSet) (wf : WellFormed b) where
   free-not-blocked : (n : ℕ) → tooMany (entries b) (stage b n) ≡ false → (e : Entry) → List·Memᴰ e (entries b) → (m : List Term)
       → List·Memᴰ m (triggersIn (stage b n) e) → blocked (entries b) e m ≡ false → Blocked b e m → ⊥
   free-not-blocked n few e i m k free h = go (case (blockable (e .rule)))
@@ -99,7 +104,7 @@ module _ (b : RuleSet) (wf : WellFormed b) (grounded : (n : ℕ) (t : Term) → 
           not-both (blocked (entries b) e m) (blocked-complete b e m (test-sets-within (entries b) (stage b n) few i j k) h) free
       go (inr j) =
           let (t, l) = triggersIn-mem (stage b n) e k in
-          never-blocked wf i j m (t .total) (λ u q. grounded n u (t .terms u q)) h
+          never-blocked wf i j m (t .total) (λ u q. proper-grounded (terms-proper b wf n (t .terms u q))) h
 
   -- a stage is within the set if the test sets of all earlier ones are within their limit
   pub stage-within-dmfa : (n : ℕ) → ((j : ℕ) → j < n → tooMany (entries b) (stage b j) ≡ false) → (f : Fact) → List·Memᴰ f (stage b n .facts) → Dmfa b f
@@ -159,9 +164,13 @@ module _ (b : RuleSet) (wf : WellFormed b) (grounded : (n : ℕ) (t : Term) → 
   pub cyclic-is-reached : {n f t : ℕ} (h : verdict b ≡ looping n f t) → Witness b n (looping-says b wf h .shown)
   cyclic-is-reached h = looping-witness (looping-says b wf h)
 
-  -- what was made before a refusal is within the set
-  pub refused-within-dmfa : {n p : ℕ} (r : Refused b n p) (f : Fact) → List·Memᴰ f (stage b (r .last) .facts) → Dmfa b f
-  refused-within-dmfa r = reached-within-dmfa (r .last) (r .reached)
+  -- the last stage made before a refusal is within the set
+  pub refused-within-dmfa : {n k : ℕ} → verdict b ≡ refused n (suc k) → (f : Fact) → List·Memᴰ f (stage b k .facts) → Dmfa b f
+  refused-within-dmfa {k = k} h =
+      let r = refused-says b wf h in
+      let e = r .next in
+      let i : k ≡ r .last = omega arith in
+      rw i (reached-within-dmfa (r .last) (r .reached))
 
   cause-few : (k : ℕ) {n : ℕ} → Cause b k n → 13 ≤ n → tooMany (entries b) (stage b k) ≡ false
   cause-few k (large i) h = absurd (omega arith)
@@ -169,6 +178,8 @@ module _ (b : RuleSet) (wf : WellFormed b) (grounded : (n : ℕ) (t : Term) → 
   cause-few k (facts i j c l) h = j
   cause-few k (terms i j c l o) h = j
 
-  -- and so is the stage that was too large to hold
-  pub refused-stage-within-dmfa : {n p : ℕ} → Refused b n p → 13 ≤ n → (f : Fact) → List·Memᴰ f (stage b p .facts) → Dmfa b f
-  refused-stage-within-dmfa r h = rw (r .next) (next-within-dmfa (r .last) (r .reached) (cause-few (r .last) (r .cause) h))
+  -- and so is the stage that is refused for its facts or terms
+  pub refused-stage-within-dmfa : {n p : ℕ} → verdict b ≡ refused n p → 13 ≤ n → (f : Fact) → List·Memᴰ f (stage b p .facts) → Dmfa b f
+  refused-stage-within-dmfa h i =
+      let r = refused-says b wf h in
+      rw (r .next) (next-within-dmfa (r .last) (r .reached) (cause-few (r .last) (r .cause) i))

@@ -1,27 +1,28 @@
 -- A rule that is not blockable has no blocked trigger, published or computed: its Skolem term over the renamed frontier would stand inside
 -- what it is made of. Assumes nothing.
 use mathlib.Core.Path.{_≡_, refl, sym, ap, _∙_, subst}
-use mathlib.Core.Bool.{Bool, true, false, _&&_, _||_, not}
+use mathlib.Core.Bool.{true, false}
 use mathlib.Core.Logic.{_⊎_, inl, inr, ⊎-elim}
-use mathlib.Core.List.{List, [], _∷_, _++_, map, List·Memᴰ, List·Memᴰ·head, List·Memᴰ·tail, List·Memᴰ·not-nil, List·Memᴰ·cases-cons, List·Memᴰ·append-cases, Memᴰ·cast}
-use Prim.Native.Nat.{ℕ, zero, suc, _+_, _≤_, _<_}
+use mathlib.Core.List.{List, [], _∷_, _++_, map, List·Memᴰ, List·Memᴰ·head, List·Memᴰ·not-nil, List·Memᴰ·cases-cons, List·Memᴰ·append-cases, Memᴰ·cast}
+use Prim.Native.Nat.{ℕ, suc, _+_, _≤_, _<_}
 use native.Mathlib.Omega.{arith}
 use lib.Dec.{eqb, ltb}
 use lib.ListN.{length}
-use borrow.Author.Tests.{eqb-true, eqb-false, eq-eqb, ltb-false, not-false}
+use borrow.Author.Tests.{eqb-true, eqb-false, eq-eqb, ltb-false}
 use Rattle.model.specs.Lists.{all, any, collect, index}
-use Rattle.model.specs.Term.{Position, root, Term, skolem, list, terms, size}
-use Rattle.model.specs.Rules.{Atom, Rule, RuleSet, Disjunct, Entry, entries, variablesOf, inBody, universal, frontier, existential, existentialFree, datalog, blockable, detached}
-use Rattle.model.specs.WellFormed.{WellFormedAtoms, WellFormedRule, WellFormed}
-use Rattle.model.specs.Triggers.{Fact, sameFact, assign, instantiate, headTerm, headFacts, termsOf}
+use Rattle.model.specs.Term.{root, Term, skolem, terms, size}
+use Rattle.model.specs.Rules.{Atom, Rule, RuleSet, Disjunct, Entry, entries, variablesOf, inBody, universal, frontier, existential, existentialFree, datalog, blockable}
+use Rattle.model.specs.WellFormed.{WellFormedRule, WellFormed}
+use Rattle.model.specs.Triggers.{Fact, sameFact, assign, instantiate, headTerm, termsOf}
 use Rattle.model.specs.Blocking.{rename, renamed, made, testBase, blocked}
-use Rattle.model.specs.Published.{Substitution, Closed, Blocked}
+use Rattle.model.specs.Published.{Substitution, Blocked}
 use Rattle.laws.proofs.Bools.{case, not-both, and-false, true-and, is-false}
-use Rattle.laws.proofs.Lists.{any-mem, any-false, mem-all, mem-map, map-mem, collect-mem, extend-mem}
+use Rattle.laws.proofs.Lists.{any-false, mem-all, mem-map, map-mem, collect-mem, extend-mem}
 use Rattle.laws.proofs.Terms.{list-terms}
 use Rattle.laws.proofs.Facts.{termsOf-mem}
-use Rattle.laws.proofs.Rules.{Entered, entries-mem, mem-variablesOf, variablesOf-mem, mem-inBody, mem-universal, universal-distinct, frontier-mem, mem-frontier, existential-mem}
+use Rattle.laws.proofs.Rules.{entries-mem, mem-variablesOf, variablesOf-mem, mem-inBody, mem-universal, universal-distinct, frontier-mem, existential-mem}
 use Rattle.laws.proofs.Triggers.{assign-here, assign-there, assign-all, assign-mem, headTerm-existential, mem-headFacts}
+use Rattle.stage_laws.proofs.Order.{frontier-shared}
 use Rattle.published_laws.proofs.Closure.{instantiate-argument}
 use Rattle.published_laws.proofs.Blocked.{apartly, blocked-sound}
 use Rattle.published_laws.proofs.Subterms.{Inside, inside-size, Rooted, rooted-inside, rooted-unique, Grounded, rename-root-rooted}
@@ -111,18 +112,13 @@ singleton-unique [] h i j = absurd (List·Memᴰ·not-nil i)
 singleton-unique (z ∷ []) h i j = mathlib.Core.List.List·Memᴰ·eq-of-singleton i ∙ sym (mathlib.Core.List.List·Memᴰ·eq-of-singleton j)
 singleton-unique (z ∷ (w ∷ xs)) h i j = absurd (omega arith)
 
-mem-length : {xs : List (List Atom)} {x : List Atom} → List·Memᴰ x xs → 1 ≤ length xs
-mem-length (List·Memᴰ·head e) = omega arith
-mem-length (List·Memᴰ·tail m) = omega arith
-
 -- each disjunct of a rule that is neither Datalog nor blockable has an existential variable
-not-existentialFree : (r : Rule) → datalog r ≡ false → blockable r ≡ false → {d : List Atom} → List·Memᴰ d (r .head) → existentialFree r d ≡ false
+not-existentialFree : (r : Rule) → 1 ≤ length (r .head) → datalog r ≡ false → blockable r ≡ false → {d : List Atom} → List·Memᴰ d (r .head) → existentialFree r d ≡ false
 unfolding datalog blockable
-not-existentialFree r n h {d} k = go (and-false (ltb 1 (length (r .head))) (any (existentialFree r) (r .head)) h)
+not-existentialFree r some n h {d} k = go (and-false (ltb 1 (length (r .head))) (any (existentialFree r) (r .head)) h)
   where
     alone : length (r .head) ≤ 1 → existentialFree r d ≡ true → ⊥
     alone l e =
-        let s = mem-length k in
         let one : length (r .head) ≡ 1 = omega arith in
         not-both (datalog r)
         (true-and (eqb (length (r .head)) 1) (all (existentialFree r) (r .head)) (eq-eqb (length (r .head)) 1 one)
@@ -141,13 +137,6 @@ existential-variable r d h = some (existential r d) (eqb-false (length (existent
     some [] n = absurd (n refl)
     some (x ∷ xs) n = (x, List·Memᴰ·head refl)
 
--- a disjunct has a variable of the frontier
-frontier-variable : {arities : List ℕ} (r : Rule) → WellFormedRule arities r → {d : List Atom} → List·Memᴰ d (r .head) → (v : ℕ) × List·Memᴰ v (frontier r)
-unfolding detached
-frontier-variable r wf {d} k =
-    let (v, i, e) = any-mem (inBody r) (variablesOf d) (not-false (any (inBody r) (variablesOf d)) (any-false (detached r) (wf .attached) k)) in
-    (v, mem-frontier r (mem-universal r (variable-range (wf .each d k) i) e) k i)
-
 headTerm-skolem : (d : Disjunct) (r : Rule) (σ : ℕ → Term) (v : ℕ) → d .rule ≡ r → inBody r v ≡ false
     → (f : ℕ) × (headTerm d σ v ≡ skolem f (terms (map σ (frontier r))))
 headTerm-skolem d r σ v e h =
@@ -160,10 +149,10 @@ module _ {b : RuleSet} (wf : WellFormed b) {e : Entry} (entered : List·Memᴰ e
   never-blocked (n, d, k, c) =
       let r = e .rule in
       let (p, q) = entries-mem b entered .disjuncts d k in
-      let (v, i) = existential-variable r (d .atoms) (not-existentialFree r n unblockable q) in
+      let (v, i) = existential-variable r (d .atoms) (not-existentialFree r (entry-well-formed wf entered .some) n unblockable q) in
       let (j, o) = existential-mem r (d .atoms) i in
       let (a, s, t) = variablesOf-mem (d .atoms) j in
-      let (u, w) = frontier-variable r (entry-well-formed wf entered) q in
+      let (u, w, y) = frontier-shared (entry-well-formed wf entered) q in
       let x = closed-argument wf (c (instantiate (headTerm d (apartly r m)) a) (mem-headFacts (apartly r m) d s)) (headTerm d (apartly r m) v) (instantiate-argument (headTerm d (apartly r m)) a t) in
       let (f, h) = headTerm-skolem d r (apartly r m) v p o in
       not-in-base r (entry-well-formed wf entered) m sub grounded (entries b) f w (Memᴰ·cast (sym h) x)
