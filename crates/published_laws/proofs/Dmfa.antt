@@ -25,7 +25,7 @@ use Rattle.stage_laws.proofs.Order.{Proper, proper-star, proper-skolem, terms-p
 use Rattle.published_laws.proofs.Closure.{loaded-trigger}
 use Rattle.published_laws.proofs.Blocked.{blocked-sound, blocked-complete}
 use Rattle.published_laws.proofs.Subterms.{Grounded, grounded-star, grounded-skolem}
-use Rattle.published_laws.proofs.Unblockable.{never-blocked}
+use Rattle.published_laws.proofs.Unblockable.{never-blocked, never-blocked-computed}
 
 -- terms of stages are grounded
 proper-grounded : {t : Term} → Proper t → Grounded t
@@ -93,18 +93,27 @@ pub record Witness (b : RuleSet) (n : ℕ) (u : Term) : Type 0 where
   pub within : (g : Fact) → List·Memᴰ g (stage b n .facts) → Dmfa b g
   pub first : (j : ℕ) → j < n → (v : Term) → List·Memᴰ v (stage b j .terms) → cyclic v ≡ false
 
--- a trigger of a stage that the test lets through is not blocked
+-- the rule set is DMFA: its set has no cyclic term (001, Definition 4)
+abbrev pub Acyclic : RuleSet → Type 0
+Acyclic b = (g : Fact) → Dmfa b g → (u : Term) → List·Memᴰ u (g .arguments) → cyclic u ≡ false
+
 module _ (b : RuleSet) (wf : WellFormed b) where
-  free-not-blocked : (n : ℕ) → tooMany (entries b) (stage b n) ≡ false → (e : Entry) → List·Memᴰ e (entries b) → (m : List Term)
-      → List·Memᴰ m (triggersIn (stage b n) e) → blocked (entries b) e m ≡ false → Blocked b e m → ⊥
-  free-not-blocked n few e i m k free h = go (case (blockable (e .rule)))
+  trigger-grounded : (n : ℕ) (e : Entry) (m : List Term) → List·Memᴰ m (triggersIn (stage b n) e) → (t : Term) → List·Memᴰ t m → Grounded t
+  trigger-grounded n e m k t i = proper-grounded (terms-proper b wf n (triggersIn-mem (stage b n) e k .0 .terms t i))
+
+  -- only blockable rules need the blocking test
+  pub unblockable-free : (n : ℕ) (e : Entry) (m : List Term) → List·Memᴰ e (entries b) → blockable (e .rule) ≡ false
+      → List·Memᴰ m (triggersIn (stage b n) e) → blocked (entries b) e m ≡ false
+  unblockable-free n e m i j k = never-blocked-computed wf i j m (triggersIn-mem (stage b n) e k .0 .total) (trigger-grounded n e m k)
+
+  -- on the triggers of a stage whose test sets are within their limit, the test decides the published notion
+  pub blocked-is-published : (n : ℕ) (e : Entry) (m : List Term) → tooMany (entries b) (stage b n) ≡ false → List·Memᴰ e (entries b)
+      → List·Memᴰ m (triggersIn (stage b n) e) → (blocked (entries b) e m ≡ true) ↔ Blocked b e m
+  blocked-is-published n e m few i k = (blocked-sound b e m, go (case (blockable (e .rule))))
     where
-      go : (blockable (e .rule) ≡ true) ⊎ (blockable (e .rule) ≡ false) → ⊥
-      go (inl j) =
-          not-both (blocked (entries b) e m) (blocked-complete b e m (test-sets-within (entries b) (stage b n) few i j k) h) free
-      go (inr j) =
-          let (t, l) = triggersIn-mem (stage b n) e k in
-          never-blocked wf i j m (t .total) (λ u q. proper-grounded (terms-proper b wf n (t .terms u q))) h
+      go : (blockable (e .rule) ≡ true) ⊎ (blockable (e .rule) ≡ false) → Blocked b e m → blocked (entries b) e m ≡ true
+      go (inl j) h = blocked-complete b e m (test-sets-within (entries b) (stage b n) few i j k) h
+      go (inr j) h = absurd (never-blocked wf i j m (triggersIn-mem (stage b n) e k .0 .total) (trigger-grounded n e m k) h)
 
   -- a stage is within the set if the test sets of all earlier ones are within their limit
   pub stage-within-dmfa : (n : ℕ) → ((j : ℕ) → j < n → tooMany (entries b) (stage b j) ≡ false) → (f : Fact) → List·Memᴰ f (stage b n .facts) → Dmfa b f
@@ -116,7 +125,8 @@ module _ (b : RuleSet) (wf : WellFormed b) where
           let r = o .entry .rule in
           let (t, l) = triggersIn-mem (stage b n) (o .entry) (o .trigger) in
           step (o .entry) (o .terms) (o .known) (t .total) (λ a i. below (instantiate (assign (universal r) (o .terms)) a) (l a i))
-          (free-not-blocked n (few n (omega arith)) (o .entry) (o .known) (o .terms) (o .trigger) (o .free)) (o .fact)
+          (λ h. not-both (blocked (entries b) (o .entry) (o .terms)) (blocked-is-published n (o .entry) (o .terms) (few n (omega arith)) (o .known) (o .trigger) .1 h) (o .free))
+          (o .fact)
 
       go : ((g : Fact) → List·Memᴰ g (stage b n .facts) → Dmfa b g) → List·Memᴰ f (stage b n .facts) ⊎ List·Memᴰ f (outputsOf b n) → Dmfa b f
       go below (inl i) = below f i
@@ -143,7 +153,7 @@ module _ (b : RuleSet) (wf : WellFormed b) where
       (reached-within-dmfa n (a .reached) g, dmfa-within b n (accepted-closed b wf a))
 
   -- and has no cyclic term
-  pub accepted-is-acyclic : {n f t : ℕ} → verdict b ≡ accepted n f t → (g : Fact) → Dmfa b g → (u : Term) → List·Memᴰ u (g .arguments) → cyclic u ≡ false
+  pub accepted-is-acyclic : {n f t : ℕ} → verdict b ≡ accepted n f t → Acyclic b
   accepted-is-acyclic {n} h g k u m = reached-acyclic b n (accepted-says b wf h .reached) u (arguments-in-terms b n (accepted-is-dmfa h g .1 k) m)
 
   pub looping-witness : {n f t : ℕ} (l : Looping b n f t) → Witness b n (l .shown)
@@ -163,6 +173,12 @@ module _ (b : RuleSet) (wf : WellFormed b) where
   -- the term shown is a cyclic one of the DMFA set, and no earlier stage holds one
   pub cyclic-is-reached : {n f t : ℕ} (h : verdict b ≡ looping n f t) → Witness b n (looping-says b wf h .shown)
   cyclic-is-reached h = looping-witness (looping-says b wf h)
+
+  pub looping-is-cyclic : {n f t : ℕ} → verdict b ≡ looping n f t → Acyclic b → ⊥
+  looping-is-cyclic h a =
+      let u = looping-says b wf h .shown in
+      let w = cyclic-is-reached h in
+      not-both (cyclic u) (w .loops) (a (w .fact) (w .within (w .fact) (w .known)) u (w .argument))
 
   -- the last stage made before a refusal is within the set
   pub refused-within-dmfa : {n k : ℕ} → verdict b ≡ refused n (suc k) → (f : Fact) → List·Memᴰ f (stage b k .facts) → Dmfa b f
