@@ -1,2 +1,4 @@
 pub mod Counting
 pub mod Instances
+pub mod Attempts
+pub mod Steps
