@@ -1,7 +1,7 @@
 -- Laws of one attempt: it is a step exactly where the rule set has its rule and disjunct and the trigger is applicable, and otherwise changes
 -- nothing; a step adds a fact at least. Assumes nothing.
 use mathlib.Core.Path.{_≡_, refl, sym, ap, subst}
-use mathlib.Core.Bool.{Bool, true, false, _&&_, _||_, not}
+use mathlib.Core.Bool.{true, false, _||_, not}
 use mathlib.Core.Logic.{_⊎_, inl, inr}
 use mathlib.Core.List.{List, [], _∷_, List·Memᴰ, List·Memᴰ·head, List·Memᴰ·tail, List·Memᴰ·not-nil, List·Memᴰ·cases-cons}
 use Prim.Native.Nat.{ℕ, zero, suc, _+_, _≤_}
@@ -9,10 +9,10 @@ use native.Mathlib.Omega.{arith}
 use native.Mathlib.Decide.{ℕ-discrete}
 use lib.ListN.{length, getD, drop, drop-of-length-le}
 use borrow.Author.Tests.{not-true}
-use Rattle.model.specs.Lists.{all, any, extend}
+use Rattle.model.specs.Lists.{all, extend}
 use Rattle.model.specs.Term.{Term, star}
 use Rattle.model.specs.Rules.{Atom, Rule, RuleSet, Disjunct, Entry, countSkolem, disjunctsFrom, entriesFrom, entries, existential, datalog}
-use Rattle.model.specs.Triggers.{Fact, sameFact, present, instantiate, headFacts}
+use Rattle.model.specs.Triggers.{sameFact, present, instantiate, headFacts}
 use Rattle.model.specs.Chase.{Attempt, State, satisfied, fits, datalogDone, applicable, addDisjunct, tryEntry, attempt}
 use Rattle.laws.proofs.Bools.{case, not-both, and-true}
 use Rattle.laws.proofs.Lists.{any-false, all-mem, mem-all, extend-length, extend-same-length}

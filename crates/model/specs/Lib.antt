@@ -14,3 +14,4 @@ pub mod Published
 pub mod Chase
 pub mod Demand
 pub mod Cases
+pub mod Examples
