@@ -21,11 +21,11 @@ use Rattle.model.specs.Chase
 use Rattle.model.specs.Demand
 use Rattle.model.specs.Demand.{starsOf, constants, bound}
 use Rattle.model.specs.Cases.{terms₀, facts₀, riverBytes}
-use Rattle.model.specs.Examples.{Filling, filled, countsOf, river, either, workedFillings, riverListed}
+use Rattle.model.specs.Examples.{Filling, outcomeOf, countsOf, river, either, workedFillings, riverListed}
 
 -- River's bytes are the first of the two rule sets; and of each filling, the count after each attempt and the facts at the end.
-pub fillings : (read riverBytes ≡ good river 37) × (map filled workedFillings ≡ workedFillings)
-unfolding ℕ-discrete Lists.all Lists.any Lists.keep Lists.extend Lists.index Lists.collect Lists.member Term.same Term.list Term.terms Rules.variablesOf Rules.inBody Rules.universal Rules.frontier Rules.existential Rules.existentialFree Rules.datalog Rules.repeated Rules.detached Rules.disjunctsFrom Rules.countSkolem Rules.entriesFrom Rules.entries Format.andThen Format.byte Format.many Format.variable Format.atom Format.atoms Format.sound Format.rule Format.stated Format.ruleSet Format.read Triggers.sameAll Triggers.sameFact Triggers.present Triggers.termsOf Triggers.assign Triggers.instantiate Triggers.assignments Triggers.holds Triggers.triggers Triggers.headTerm Triggers.headFacts Chase.satisfied Chase.fits Chase.datalogDone Chase.applicable Chase.addDisjunct Chase.tryEntry Chase.attempt Chase.chase Chase.initial riverBytes workedFillings filled countsOf river either
+pub fillings : (read riverBytes ≡ good river 37) × (map outcomeOf workedFillings ≡ map (λ (x : Filling). x .outcome) workedFillings)
+unfolding ℕ-discrete Lists.all Lists.any Lists.keep Lists.extend Lists.index Lists.collect Lists.member Term.same Term.list Term.terms Rules.variablesOf Rules.inBody Rules.universal Rules.frontier Rules.existential Rules.existentialFree Rules.datalog Rules.repeated Rules.detached Rules.disjunctsFrom Rules.countSkolem Rules.entriesFrom Rules.entries Format.andThen Format.byte Format.many Format.variable Format.atom Format.atoms Format.sound Format.rule Format.stated Format.ruleSet Format.read Triggers.sameAll Triggers.sameFact Triggers.present Triggers.termsOf Triggers.assign Triggers.instantiate Triggers.assignments Triggers.holds Triggers.triggers Triggers.headTerm Triggers.headFacts Chase.satisfied Chase.fits Chase.datalogDone Chase.applicable Chase.addDisjunct Chase.tryEntry Chase.attempt Chase.chase Chase.initial riverBytes workedFillings outcomeOf countsOf river either
 fillings = (refl, refl)
 
 -- the facts that the tables of `check` spell out for River, which has 5 facts over 2 terms

@@ -6,29 +6,26 @@ use Rattle.model.specs.Rules.{RuleSet}
 use Rattle.model.specs.Triggers.{Fact}
 use Rattle.model.specs.Chase.{Attempt, State, attempt, chase, initial}
 
--- an instance, attempts with the count of steps after each, and the facts at the end
+-- the count of steps after each attempt, and the facts at the end
+pub record Outcome : Type 0 where
+  pub counts : List ℕ
+  pub facts : List Fact
+
 pub record Filling : Type 0 where
   pub rules : RuleSet
   pub instance' : List Fact
   pub attempts : List Attempt
-  pub counts : List ℕ
-  pub facts : List Fact
+  pub outcome : Outcome
 
--- the count after each attempt
 unfoldable pub countsOf : RuleSet → List Attempt → State → List ℕ
 countsOf b [] s = []
 countsOf b (a ∷ as') s = let t : State = attempt b a s in t .steps ∷ countsOf b as' t
 
--- what is computed for a filling
-unfoldable pub filled : Filling → Filling
-filled x =
-    record {
-      rules = x .rules;
-      instance' = x .instance';
-      attempts = x .attempts;
-      counts = countsOf (x .rules) (x .attempts) (initial (x .instance'));
-      facts = chase (x .rules) (x .attempts) (initial (x .instance')) .facts;
-    }
+-- what the definitions give
+unfoldable pub outcomeOf : Filling → Outcome
+outcomeOf x =
+    let s : State = initial (x .instance') in
+    record { counts = countsOf (x .rules) (x .attempts) s; facts = chase (x .rules) (x .attempts) s .facts }
 
 -- River: 0 Batch, 1 Transfer, 2 Closed
 unfoldable pub river : RuleSet
@@ -94,15 +91,18 @@ workedFillings =
           record { rule = 2; terms = constant 1 ∷ receipt (constant 1) ∷ []; disjunct = 0 } ∷
           record { rule = 1; terms = constant 1 ∷ receipt (constant 1) ∷ []; disjunct = 1 } ∷
           [];
-      counts = 0 ∷ 1 ∷ 1 ∷ 1 ∷ 1 ∷ 2 ∷ 2 ∷ 2 ∷ 2 ∷ 2 ∷ 3 ∷ 3 ∷ 4 ∷ 4 ∷ [];
-      facts =
-          record { predicate = 0; arguments = constant 0 ∷ [] } ∷
-          record { predicate = 0; arguments = constant 1 ∷ [] } ∷
-          record { predicate = 1; arguments = constant 0 ∷ receipt (constant 0) ∷ [] } ∷
-          record { predicate = 2; arguments = receipt (constant 0) ∷ [] } ∷
-          record { predicate = 1; arguments = constant 1 ∷ receipt (constant 1) ∷ [] } ∷
-          record { predicate = 2; arguments = receipt (constant 1) ∷ [] } ∷
-          [];
+      outcome =
+          record {
+            counts = 0 ∷ 1 ∷ 1 ∷ 1 ∷ 1 ∷ 2 ∷ 2 ∷ 2 ∷ 2 ∷ 2 ∷ 3 ∷ 3 ∷ 4 ∷ 4 ∷ [];
+            facts =
+                record { predicate = 0; arguments = constant 0 ∷ [] } ∷
+                record { predicate = 0; arguments = constant 1 ∷ [] } ∷
+                record { predicate = 1; arguments = constant 0 ∷ receipt (constant 0) ∷ [] } ∷
+                record { predicate = 2; arguments = receipt (constant 0) ∷ [] } ∷
+                record { predicate = 1; arguments = constant 1 ∷ receipt (constant 1) ∷ [] } ∷
+                record { predicate = 2; arguments = receipt (constant 1) ∷ [] } ∷
+                [];
+          };
     } ∷
     -- A(x) → B(x) ∨ C(x) along its first disjunct
     record {
@@ -123,8 +123,11 @@ workedFillings =
           record { rule = 0; terms = constant 0 ∷ []; disjunct = 0 } ∷
           record { rule = 0; terms = constant 0 ∷ []; disjunct = 1 } ∷
           [];
-      counts = 0 ∷ 0 ∷ 0 ∷ 0 ∷ 0 ∷ 0 ∷ 1 ∷ 1 ∷ 1 ∷ [];
-      facts = record { predicate = 0; arguments = constant 0 ∷ [] } ∷ record { predicate = 1; arguments = constant 0 ∷ [] } ∷ [];
+      outcome =
+          record {
+            counts = 0 ∷ 0 ∷ 0 ∷ 0 ∷ 0 ∷ 0 ∷ 1 ∷ 1 ∷ 1 ∷ [];
+            facts = record { predicate = 0; arguments = constant 0 ∷ [] } ∷ record { predicate = 1; arguments = constant 0 ∷ [] } ∷ [];
+          };
     } ∷
     -- along its second
     record {
@@ -135,8 +138,11 @@ workedFillings =
           record { rule = 0; terms = constant 0 ∷ []; disjunct = 1 } ∷
           record { rule = 0; terms = constant 0 ∷ []; disjunct = 0 } ∷
           [];
-      counts = 1 ∷ 1 ∷ 1 ∷ [];
-      facts = record { predicate = 0; arguments = constant 0 ∷ [] } ∷ record { predicate = 2; arguments = constant 0 ∷ [] } ∷ [];
+      outcome =
+          record {
+            counts = 1 ∷ 1 ∷ 1 ∷ [];
+            facts = record { predicate = 0; arguments = constant 0 ∷ [] } ∷ record { predicate = 2; arguments = constant 0 ∷ [] } ∷ [];
+          };
     } ∷
     -- along both, each for a constant of its own; a fact that is given twice stands once
     record {
@@ -151,13 +157,16 @@ workedFillings =
           record { rule = 0; terms = constant 1 ∷ []; disjunct = 0 } ∷
           record { rule = 0; terms = constant 1 ∷ []; disjunct = 1 } ∷
           [];
-      counts = 1 ∷ 2 ∷ 2 ∷ [];
-      facts =
-          record { predicate = 0; arguments = constant 0 ∷ [] } ∷
-          record { predicate = 0; arguments = constant 1 ∷ [] } ∷
-          record { predicate = 2; arguments = constant 0 ∷ [] } ∷
-          record { predicate = 1; arguments = constant 1 ∷ [] } ∷
-          [];
+      outcome =
+          record {
+            counts = 1 ∷ 2 ∷ 2 ∷ [];
+            facts =
+                record { predicate = 0; arguments = constant 0 ∷ [] } ∷
+                record { predicate = 0; arguments = constant 1 ∷ [] } ∷
+                record { predicate = 2; arguments = constant 0 ∷ [] } ∷
+                record { predicate = 1; arguments = constant 1 ∷ [] } ∷
+                [];
+          };
     } ∷
     []
 
