@@ -1,0 +1,1 @@
+// laws of reading and writing, in proofs/
