@@ -1,1 +1,2 @@
 pub mod Parsers
+pub mod Format

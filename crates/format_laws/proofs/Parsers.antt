@@ -3,7 +3,7 @@
 use mathlib.Core.Path.{_≡_, refl, sym, ap, _∙_, subst}
 use mathlib.Core.Bool.{Bool, true, false, _&&_}
 use mathlib.Core.Logic.{_⊎_, inl, inr, ⊎-elim}
-use mathlib.Core.List.{List, [], _∷_, _++_, append-assoc, List·Memᴰ, List·Memᴰ·head, List·Memᴰ·tail, List·Memᴰ·not-nil, List·Memᴰ·cases-cons}
+use mathlib.Core.List.{List, [], _∷_, _++_, append-assoc, append-nil, List·Memᴰ, List·Memᴰ·head, List·Memᴰ·tail, List·Memᴰ·not-nil, List·Memᴰ·cases-cons}
 use Prim.Native.Nat.{ℕ, zero, suc, _+_, _≤_, _<_}
 use native.Mathlib.Omega.{arith}
 use native.Mathlib.Numerals.{add-one}
@@ -71,6 +71,9 @@ spelled-then {xs = xs} {ys = ys} {k = k} h g =
       end = omega (arith, length-append xs ys, h .end, g .end);
       bytes = h .bytes ∙ ap (λ (zs : List ℕ). xs ++ zs) (g .bytes) ∙ sym (append-assoc xs ys _);
     }
+
+pub spelled-all : {bs : List ℕ} {i : ℕ} {xs : List ℕ} {j : ℕ} → Spelled bs i xs j → j ≡ length bs → drop i bs ≡ xs
+spelled-all {bs} {xs = xs} {j = j} h e = h .bytes ∙ ap (λ (ys : List ℕ). xs ++ ys) (drop-of-length-le bs {i = j} (omega arith)) ∙ append-nil xs
 
 -- what stands at i is there
 pub drop-place : (bs : List ℕ) (i v : ℕ) (rest : List ℕ) → drop i bs ≡ v ∷ rest → (i < length bs) × (getD bs i 0 ≡ v)
@@ -200,6 +203,11 @@ module _ {A : Type 0} where
             (meets-map (law .meets x i rest (h x k) (e ∙ ap (λ (xs : List ℕ). xs ++ rest) (sym (s x)))) (f x) (g x));
       }
 
+pub collect-alone : (vs : List ℕ) → collect (λ (v : ℕ). v ∷ []) vs ≡ vs
+unfolding collect
+collect-alone [] = refl
+collect-alone (v ∷ vs) = ap (λ (us : List ℕ). v ∷ us) (collect-alone vs)
+
 -- parsers of bytes
 module _ (bs : List ℕ) (low high refusal : ℕ) (four : 4 ≤ refusal) (nine : refusal ≤ 9) where
   pub byte-codes : Codes bs (byte bs low high refusal) (λ v. v ∷ []) (λ v. Unit {0}) (Between low high)
@@ -209,17 +217,12 @@ module _ (bs : List ℕ) (low high refusal : ℕ) (four : 4 ≤ refusal) (nine :
         meets = λ v i rest s e. byte-meets bs low high refusal four nine v i rest e;
       }
 
-  collect-alone : (vs : List ℕ) → collect (λ (v : ℕ). v ∷ []) vs ≡ vs
-  unfolding collect
-  collect-alone [] = refl
-  collect-alone (v ∷ vs) = ap (λ (us : List ℕ). v ∷ us) (collect-alone vs)
-
   pub bytes-codes : (n : ℕ) → Codes bs (many n (byte bs low high refusal)) (λ vs. vs) (λ vs. length vs ≡ n) (Counted n (Between low high))
   bytes-codes n = codes-map (many-codes byte-codes n) collect-alone (λ vs e. record { count = e; each = λ v m. tt }) (λ vs w. w) (λ vs w. w)
 
 -- a count from low to high, and so many elements
 module _ {A : Type 0} where
-  pub listed : List ℕ → (low high refusal : ℕ) → (ℕ → Parsed A) → ℕ → Parsed (List A)
+  abbrev pub listed : List ℕ → (low high refusal : ℕ) → (ℕ → Parsed A) → ℕ → Parsed (List A)
   listed bs low high refusal parse i = andThen (byte bs low high refusal i) (λ n j. many n parse j)
 
   pub record Listed (low high : ℕ) (W : A → Type 0) (xs : List A) : Type 0 where
@@ -228,7 +231,6 @@ module _ {A : Type 0} where
 
 module _ {A : Type 0} {bs : List ℕ} (low high refusal : ℕ) (four : 4 ≤ refusal) (nine : refusal ≤ 9) {parse : ℕ → Parsed A} {spell : A → List ℕ} {Shape W : A → Type 0} (law : Codes bs parse spell Shape W) where
   pub listed-codes : Codes bs (listed bs low high refusal parse) (λ xs. length xs ∷ collect spell xs) (λ xs. (x : A) → List·Memᴰ x xs → Shape x) (Listed low high W)
-  unfolding listed
   listed-codes =
       record {
         sound = λ i.
