@@ -15,6 +15,7 @@ use Rattle.model.specs.WellFormed.{WellFormedAtom, WellFormedAtoms, WellFormedR
 use Rattle.model.specs.Format.{Parsed, good, bad, ruleSet, stated, read, atomBytes, atomsBytes, ruleBytes, content, bigEndian, bytesOf}
 use Rattle.laws.proofs.Bools.{case, and-true, true-and}
 use Rattle.laws.proofs.Lists.{collect-mem}
+use Rattle.format_laws.proofs.Lists.{getD-mem, length-collect-le}
 use Rattle.format_laws.proofs.Parsers.{Yields, value, refused, yields-good, yields-map, meets-good}
 use Rattle.format_laws.proofs.Format.{Content, ruleSet-sound, ruleSet-meets, wellFormed-shaped}
 
@@ -94,3 +95,106 @@ module _ (bs : List ℕ) (b : RuleSet) (i : ℕ) (e : read bs ≡ good b i) wher
       let c : drop 4 bs ≡ content b = whole .content .bytes in
       let l : length (content b) ≡ stated bs = let p = whole .stated in omega (arith, length-drop 4 bs, ap length c) in
       ap₂ (λ (n : ℕ) (xs : List ℕ). bigEndian n ++ xs) l (sym c) ∙ front bs (whole .some) h
+
+-- how many bytes a well-formed rule set has
+
+arity-at-most : {b : RuleSet} → WellFormed b → (p : ℕ) → p < length (b .arities) → getD (b .arities) p 0 ≤ 4
+arity-at-most {b} w p h = w .arities (getD (b .arities) p 0) (getD-mem (b .arities) p 0 h) .1
+
+atomBytes-length : {b : RuleSet} → WellFormed b → {a : Atom} → WellFormedAtom (b .arities) a → length (atomBytes a) ≤ 5
+unfolding atomBytes
+atomBytes-length w {a} h =
+    let l = arity-at-most w (a .predicate) (h .declared) in
+    let e = h .arity in
+    omega arith
+
+atomsBytes-length : {b : RuleSet} → WellFormed b → {as' : List Atom} → WellFormedAtoms (b .arities) as' → length (atomsBytes as') ≤ 21
+unfolding atomsBytes
+atomsBytes-length w {as'} h =
+    let l = length-collect-le atomBytes 5 as' (λ a m. atomBytes-length w (h .each a m)) in
+    let f = h .few in
+    omega arith
+
+ruleBytes-length : {b : RuleSet} → WellFormed b → {r : Rule} → WellFormedRule (b .arities) r → length (ruleBytes r) ≤ 106
+unfolding ruleBytes
+ruleBytes-length w {r} h =
+    let k = atomsBytes-length w (h .body) in
+    let l = length-collect-le atomsBytes 21 (r .head) (λ d m. atomsBytes-length w (h .each d m)) in
+    let f = h .few in
+    omega (arith, length-append (atomsBytes (r .body)) (length (r .head) ∷ collect atomsBytes (r .head)))
+
+pub content-length : {b : RuleSet} → WellFormed b → length (content b) ≤ 6851
+unfolding content
+content-length {b} w =
+    let l = length-collect-le ruleBytes 106 (b .rules) (λ r m. ruleBytes-length w (w .rules r m)) in
+    let f = w .few in
+    let s = w .short in
+    omega (arith, length-append (b .arities) (length (b .rules) ∷ collect ruleBytes (b .rules)))
+
+pub bytesOf-length : (b : RuleSet) → length (bytesOf b) ≡ 4 + length (content b)
+unfolding bytesOf bigEndian
+bytesOf-length b = omega arith
+
+-- the longest book
+pub bytes-at-most : {b : RuleSet} → WellFormed b → length (bytesOf b) ≤ 6855
+bytes-at-most {b} w = let h = content-length w in omega (arith, bytesOf-length b)
+
+-- after the four bytes of the length
+pub drop-bytesOf : (b : RuleSet) → drop 4 (bytesOf b) ≡ content b
+unfolding bytesOf bigEndian
+drop-bytesOf b = refl
+
+-- a well-formed rule set is read from its bytes
+pub read-of-bytes : (b : RuleSet) → WellFormed b → read (bytesOf b) ≡ good b (length (bytesOf b))
+read-of-bytes b w =
+    let h = content-length w in
+    let s : stated (bytesOf b) ≡ length (content b) = unfold bytesOf in numbers-stated (length (content b)) (content b) (omega arith) in
+    read-content (bytesOf b) (omega (arith, bytesOf-length b)) (omega (arith, bytesOf-length b, s))
+    ∙ meets-good (ruleSet-meets (bytesOf b) b (wellFormed-shaped w) (drop-bytesOf b)) w
+
+-- the bytes of a well-formed rule set are bytes
+
+bytes-none : Bytes []
+bytes-none x m = absurd (List·Memᴰ·not-nil m)
+
+bytes-cons : {x : ℕ} {xs : List ℕ} → x < 256 → Bytes xs → Bytes (x ∷ xs)
+bytes-cons {x} {xs} h g y m = ⊎-elim (λ (e : y ≡ x). omega arith) (λ (k : List·Memᴰ y xs). g y k) (List·Memᴰ·cases-cons m)
+
+bytes-append : (xs ys : List ℕ) → Bytes xs → Bytes ys → Bytes (xs ++ ys)
+bytes-append xs ys h g y m = ⊎-elim (λ (k : List·Memᴰ y xs). h y k) (λ (k : List·Memᴰ y ys). g y k) (List·Memᴰ·append-cases xs m)
+
+bytes-collect : {A : Type 0} (f : A → List ℕ) (xs : List A) → ((x : A) → List·Memᴰ x xs → Bytes (f x)) → Bytes (collect f xs)
+bytes-collect f xs h y m = let (x, i, k) = collect-mem f xs m in h x i y k
+
+atomBytes-bytes : {arities : List ℕ} → length arities ≤ 64 → {a : Atom} → WellFormedAtom arities a → Bytes (atomBytes a)
+unfolding atomBytes
+atomBytes-bytes l h = let d = h .declared in bytes-cons (omega arith) (λ v m. let r = h .range v m in omega arith)
+
+atomsBytes-bytes : {arities : List ℕ} → length arities ≤ 64 → {as' : List Atom} → WellFormedAtoms arities as' → Bytes (atomsBytes as')
+unfolding atomsBytes
+atomsBytes-bytes l {as'} h = let f = h .few in bytes-cons (omega arith) (bytes-collect atomBytes as' (λ a m. atomBytes-bytes l (h .each a m)))
+
+ruleBytes-bytes : {arities : List ℕ} → length arities ≤ 64 → {r : Rule} → WellFormedRule arities r → Bytes (ruleBytes r)
+unfolding ruleBytes
+ruleBytes-bytes l {r} h =
+    let f = h .few in
+    bytes-append (atomsBytes (r .body)) (length (r .head) ∷ collect atomsBytes (r .head)) (atomsBytes-bytes l (h .body))
+    (bytes-cons (omega arith) (bytes-collect atomsBytes (r .head) (λ d m. atomsBytes-bytes l (h .each d m))))
+
+content-bytes : {b : RuleSet} → WellFormed b → Bytes (content b)
+unfolding content
+content-bytes {b} w =
+    let f = w .few in
+    let s = w .short in
+    bytes-cons (omega arith)
+    (bytes-cons (omega arith)
+    (bytes-append (b .arities) (length (b .rules) ∷ collect ruleBytes (b .rules)) (λ n m. let h = w .arities n m in omega arith)
+    (bytes-cons (omega arith) (bytes-collect ruleBytes (b .rules) (λ r m. ruleBytes-bytes f (w .rules r m))))))
+
+bigEndian-bytes : (n : ℕ) → Bytes (bigEndian n)
+unfolding bigEndian
+bigEndian-bytes n = bytes-cons (omega arith) (bytes-cons (omega arith) (bytes-cons (omega arith) (bytes-cons (omega arith) bytes-none)))
+
+pub bytesOf-bytes : {b : RuleSet} → WellFormed b → Bytes (bytesOf b)
+unfolding bytesOf
+bytesOf-bytes {b} w = bytes-append (bigEndian (length (content b))) (content b) (bigEndian-bytes (length (content b))) (content-bytes w)

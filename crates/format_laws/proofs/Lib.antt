@@ -1,3 +1,4 @@
+pub mod Lists
 pub mod Parsers
 pub mod Format
 pub mod Bytes
