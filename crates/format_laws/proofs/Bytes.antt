@@ -98,7 +98,7 @@ module _ (bs : List ℕ) (b : RuleSet) (i : ℕ) (e : read bs ≡ good b i) wher
 
 -- how many bytes a well-formed rule set has
 
-arity-at-most : {b : RuleSet} → WellFormed b → (p : ℕ) → p < length (b .arities) → getD (b .arities) p 0 ≤ 4
+pub arity-at-most : {b : RuleSet} → WellFormed b → (p : ℕ) → p < length (b .arities) → getD (b .arities) p 0 ≤ 4
 arity-at-most {b} w p h = w .arities (getD (b .arities) p 0) (getD-mem (b .arities) p 0 h) .1
 
 atomBytes-length : {b : RuleSet} → WellFormed b → {a : Atom} → WellFormedAtom (b .arities) a → length (atomBytes a) ≤ 5

@@ -2,3 +2,4 @@ pub mod Lists
 pub mod Parsers
 pub mod Format
 pub mod Bytes
+pub mod Form
