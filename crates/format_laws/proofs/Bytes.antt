@@ -89,6 +89,9 @@ module _ (bs : List ℕ) (b : RuleSet) (i : ℕ) (e : read bs ≡ good b i) wher
   pub read-end : i ≡ length bs
   read-end = whole .content .end
 
+  pub ruleSet-of-read : ruleSet bs ≡ good b i
+  ruleSet-of-read = sym (read-content bs (whole .some) (whole .stated)) ∙ e
+
   pub bytes-of-read : Bytes bs → bytesOf b ≡ bs
   unfolding bytesOf
   bytes-of-read h =
@@ -144,13 +147,17 @@ pub drop-bytesOf : (b : RuleSet) → drop 4 (bytesOf b) ≡ content b
 unfolding bytesOf bigEndian
 drop-bytesOf b = refl
 
+-- four bytes have room for the length, so the content decides
+pub read-bytesOf : (b : RuleSet) → length (content b) < 4294967296 → read (bytesOf b) ≡ ruleSet (bytesOf b)
+read-bytesOf b h =
+    let s : stated (bytesOf b) ≡ length (content b) = unfold bytesOf in numbers-stated (length (content b)) (content b) h in
+    read-content (bytesOf b) (omega (arith, bytesOf-length b)) (omega (arith, bytesOf-length b, s))
+
 -- a well-formed rule set is read from its bytes
 pub read-of-bytes : (b : RuleSet) → WellFormed b → read (bytesOf b) ≡ good b (length (bytesOf b))
 read-of-bytes b w =
     let h = content-length w in
-    let s : stated (bytesOf b) ≡ length (content b) = unfold bytesOf in numbers-stated (length (content b)) (content b) (omega arith) in
-    read-content (bytesOf b) (omega (arith, bytesOf-length b)) (omega (arith, bytesOf-length b, s))
-    ∙ meets-good (ruleSet-meets (bytesOf b) b (wellFormed-shaped w) (drop-bytesOf b)) w
+    read-bytesOf b (omega arith) ∙ meets-good (ruleSet-meets (bytesOf b) b (wellFormed-shaped w) (drop-bytesOf b)) w
 
 -- the bytes of a well-formed rule set are bytes
 

@@ -152,3 +152,40 @@ module _ {b : RuleSet} (w : WellFormed b) where
       ap (λ (ar : List ℕ). spaced (ruleAt form ar) 106 (length (b .rules)) 2) p ∙ q
       in
       λ i. record { arities = p i; rules = c i }
+
+-- the shape of what a form holds
+
+numbersFrom-length : (xs : List ℕ) (at n : ℕ) → length (numbersFrom xs at n) ≡ n
+unfolding numbersFrom
+numbersFrom-length xs at zero = refl
+numbersFrom-length xs at (suc n) = ap suc (numbersFrom-length xs (suc at) n)
+
+spaced-each : {A : Type 0} (P : A → Type 0) (f : ℕ → A) (width n at : ℕ) → ((at : ℕ) → P (f at)) → (x : A) → List·Memᴰ x (spaced f width n at) → P x
+unfolding spaced
+spaced-each P f width zero at h x m = absurd (List·Memᴰ·not-nil m)
+spaced-each P f width (suc n) at h x m =
+    ⊎-elim (λ (e : x ≡ f at). subst P (sym e) (h at)) (λ (k : List·Memᴰ x (spaced f width n (at + width))). spaced-each P f width n (at + width) h x k)
+    (List·Memᴰ·cases-cons m)
+
+module _ (form arities : List ℕ) where
+  atomAt-shaped : (at : ℕ) → ShapedAtom arities (atomAt form arities at)
+  unfolding atomAt
+  atomAt-shaped at = numbersFrom-length form (suc at) (getD arities (getD form at 0) 0)
+
+  groupAt-shaped : (at : ℕ) → ShapedAtoms arities (groupAt form arities at)
+  unfolding groupAt
+  groupAt-shaped at = spaced-each (ShapedAtom arities) (atomAt form arities) 5 (getD form at 0) (suc at) atomAt-shaped
+
+  ruleAt-shaped : (at : ℕ) → ShapedRule arities (ruleAt form arities at)
+  unfolding ruleAt
+  ruleAt-shaped at =
+      record {
+        body = groupAt-shaped (suc at);
+        head = spaced-each (ShapedAtoms arities) (groupAt form arities) 21 (getD form at 0) (at + 22) groupAt-shaped;
+      }
+
+pub decoded-shaped : (form : List ℕ) → Shaped (decoded form)
+unfolding decoded
+decoded-shaped form =
+    let arities : List ℕ = numbersFrom form aritiesPlace (getD form 0 0) in
+    spaced-each (ShapedRule arities) (ruleAt form arities) 106 (getD form 1 0) 2 (ruleAt-shaped form arities)

@@ -3,3 +3,4 @@ pub mod Parsers
 pub mod Format
 pub mod Bytes
 pub mod Form
+pub mod RoundTrip

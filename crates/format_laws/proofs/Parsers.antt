@@ -37,6 +37,18 @@ module _ {A : Type 0} where
   meets-good (taken w) v = refl
   meets-good (faulty n l m k) v = absurd (n v)
 
+  pub meets-value : {size : ℕ} {x : A} {j : ℕ} {W : Type 0} {o : Parsed A} → Meets size x j W o → (y : A) (k : ℕ) → o ≡ good y k → (y ≡ x) × (k ≡ j) × W
+  meets-value (taken w) y k e = (cc, cc, w)
+  meets-value (faulty n l m h) y k e = let z : _≡_ {A = ℕ} 0 1 = cc in absurd (omega arith)
+
+  pub meets-fault : {size : ℕ} {x : A} {j : ℕ} {W : Type 0} {o : Parsed A} → Meets size x j W o → (n p : ℕ) → o ≡ bad n p
+      → (W → ⊥) × (4 ≤ n) × (n ≤ 9) × (p < size)
+  meets-fault (taken w) n p e = let z : _≡_ {A = ℕ} 0 1 = cc in absurd (omega arith)
+  meets-fault {size = size} (faulty {n = m} {p = q} f l h k) n p e =
+      let i : m ≡ n = cc in
+      let j : q ≡ p = cc in
+      (f, omega arith, omega arith, omega arith)
+
   pub meets-end : {size : ℕ} {x : A} {j k : ℕ} {W : Type 0} {o : Parsed A} → j ≡ k → Meets size x j W o → Meets size x k W o
   meets-end {size} {x} {W = W} {o = o} e h = subst (λ (k : ℕ). Meets size x k W o) e h
 
