@@ -1,22 +1,22 @@
 -- Reading and spelling a whole rule set: what is read is well-formed and spells the same bytes, and what is well-formed is read back from its
 -- bytes, of which there are at most 6,855. Assumes nothing.
-use mathlib.Core.Path.{_≡_, refl, sym, ap, ap₂, _∙_, subst}
-use mathlib.Core.Bool.{Bool, true, false, _&&_}
+use mathlib.Core.Path.{_≡_, refl, sym, ap, ap₂, _∙_}
+use mathlib.Core.Bool.{true, false, _&&_}
 use mathlib.Core.Logic.{_⊎_, inl, inr, ⊎-elim}
 use mathlib.Core.List.{List, [], _∷_, _++_, List·Memᴰ, List·Memᴰ·head, List·Memᴰ·tail, List·Memᴰ·not-nil, List·Memᴰ·cases-cons, List·Memᴰ·append-cases}
-use Prim.Native.Nat.{ℕ, zero, suc, _+_, _-_, _*_, _/_, _%_, _≤_, _<_}
+use Prim.Native.Nat.{ℕ, _+_, _*_, _/_, _%_, _≤_, _<_}
 use native.Mathlib.Omega.{arith}
 use lib.Dec.{eqb, leb}
 use lib.ListN.{length, getD, drop, length-append, length-drop}
 use borrow.Author.Tests.{eqb-true, eq-eqb, leb-true, le-leb}
-use Rattle.model.specs.Lists.{any, collect}
+use Rattle.model.specs.Lists.{collect}
 use Rattle.model.specs.Rules.{Atom, Rule, RuleSet}
 use Rattle.model.specs.WellFormed.{WellFormedAtom, WellFormedAtoms, WellFormedRule, WellFormed}
-use Rattle.model.specs.Format.{Parsed, good, bad, ruleSet, stated, read, atomBytes, atomsBytes, ruleBytes, content, bigEndian, bytesOf}
+use Rattle.model.specs.Format.{good, ruleSet, stated, read, atomBytes, atomsBytes, ruleBytes, content, bigEndian, bytesOf}
 use Rattle.laws.proofs.Bools.{case, and-true, true-and}
 use Rattle.laws.proofs.Lists.{collect-mem}
 use Rattle.format_laws.proofs.Lists.{getD-mem, length-collect-le}
-use Rattle.format_laws.proofs.Parsers.{Yields, value, refused, yields-good, yields-map, meets-good}
+use Rattle.format_laws.proofs.Parsers.{Yields, refused, yields-good, yields-map, meets-good}
 use Rattle.format_laws.proofs.Format.{Content, ruleSet-sound, ruleSet-meets, wellFormed-shaped}
 
 -- numbers that are bytes

@@ -1,10 +1,10 @@
 -- Laws of the grammar of rule sets: atoms, rules and what follows the length are read where they are spelled and well-formed, and only there.
 -- Assumes nothing.
-use mathlib.Core.Path.{_≡_, refl, sym, ap, _∙_, subst, fun-ext}
-use mathlib.Core.Bool.{Bool, true, false}
+use mathlib.Core.Path.{_≡_, refl, sym, ap, _∙_, fun-ext}
+use mathlib.Core.Bool.{true, false}
 use mathlib.Core.Logic.{_⊎_, inl, inr}
 use mathlib.Core.List.{List, [], _∷_, _++_, append-assoc, append-nil, List·Memᴰ}
-use Prim.Native.Nat.{ℕ, zero, suc, _+_, _-_, _≤_, _<_}
+use Prim.Native.Nat.{ℕ, _+_, _-_, _≤_, _<_}
 use native.Mathlib.Omega.{arith}
 use lib.Dec.{eqb}
 use lib.ListN.{length, getD, drop, length-append, length-drop}
@@ -14,7 +14,7 @@ use Rattle.model.specs.Rules.{Atom, Rule, RuleSet, repeated, detached}
 use Rattle.model.specs.WellFormed.{WellFormedAtom, WellFormedAtoms, WellFormedRule, WellFormed}
 use Rattle.model.specs.Format.{Parsed, good, bad, andThen, byte, many, variable, atom, atoms, sound, rule, ruleSet, atomBytes, atomsBytes, ruleBytes, content}
 use Rattle.laws.proofs.Bools.{case, not-both}
-use Rattle.format_laws.proofs.Parsers.{Yields, value, refused, Meets, taken, faulty, yields-then, meets-then, meets-end, yields-map, meets-map, Spelled, spelled-then, spelled-all, drop-past, drop-place, Between, byte-sound, byte-meets, byte-good, Codes, Counted, byte-codes, bytes-codes, collect-alone, codes-map, listed, Listed, listed-codes}
+use Rattle.format_laws.proofs.Parsers.{Yields, value, refused, Meets, taken, faulty, yields-then, meets-then, meets-end, Spelled, spelled-then, spelled-all, drop-past, drop-place, Between, byte-sound, byte-meets, byte-good, Codes, byte-codes, bytes-codes, collect-alone, codes-map, listed, Listed, listed-codes}
 
 -- as many variables as the predicate's arity says
 abbrev pub ShapedAtom : List ℕ → Atom → Type 0

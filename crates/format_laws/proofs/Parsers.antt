@@ -1,7 +1,7 @@
 -- Laws of parsers: what a good answer tells of the bytes, and what the bytes of a value make of the answer; for one byte, for a sequence and for
 -- `many`. Assumes nothing.
 use mathlib.Core.Path.{_≡_, refl, sym, ap, _∙_, subst}
-use mathlib.Core.Bool.{Bool, true, false, _&&_}
+use mathlib.Core.Bool.{true, false, _&&_}
 use mathlib.Core.Logic.{_⊎_, inl, inr, ⊎-elim}
 use mathlib.Core.List.{List, [], _∷_, _++_, append-assoc, append-nil, List·Memᴰ, List·Memᴰ·head, List·Memᴰ·tail, List·Memᴰ·not-nil, List·Memᴰ·cases-cons}
 use Prim.Native.Nat.{ℕ, zero, suc, _+_, _≤_, _<_}
@@ -10,10 +10,10 @@ use native.Mathlib.Numerals.{add-one}
 use lib.Dec.{ltb, leb}
 use lib.ListN.{length, getD, drop, length-append, length-drop, drop-of-length-le}
 use lib.Seq.{drop-cons, drop-drop, drop-append-seam, getD-drop}
-use borrow.Author.Tests.{ltb-true, ltb-false, leb-true, leb-false, lt-ltb, le-leb}
+use borrow.Author.Tests.{ltb-true, leb-true, lt-ltb, le-leb}
 use Rattle.model.specs.Lists.{collect}
 use Rattle.model.specs.Format.{Parsed, good, bad, andThen, byte, many}
-use Rattle.laws.proofs.Bools.{case, not-both, and-true, true-and, and-false}
+use Rattle.laws.proofs.Bools.{case, not-both, and-true, true-and}
 
 -- an answer whose value and end, if it has them, are as P says
 pub data Yields {A : Type 0} (P : A → ℕ → Type 0) : Parsed A → Type 0 where

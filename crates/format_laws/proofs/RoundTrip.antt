@@ -1,24 +1,24 @@
 -- Reading and writing undo each other (document 01, "Part of the product"): what is written is read into a form as the same rule set, and what
 -- is read is written as the same bytes. The writer refuses only by 4 to 9, at a byte, and by 1. Assumes nothing.
-use mathlib.Core.Path.{_≡_, refl, sym, ap, ap₂, _∙_, subst}
-use mathlib.Core.Bool.{Bool, true, false}
+use mathlib.Core.Path.{_≡_, refl, sym, ap, _∙_}
+use mathlib.Core.Bool.{true, false}
 use mathlib.Core.Logic.{_⊎_, inl, inr}
-use mathlib.Core.List.{List, [], _∷_, _++_, List·Memᴰ}
-use Prim.Native.Nat.{ℕ, zero, suc, _+_, _≤_, _<_}
+use mathlib.Core.List.{List, _++_}
+use Prim.Native.Nat.{ℕ, _≤_, _<_}
 use native.Mathlib.Omega.{arith}
 use lib.Dec.{leb}
-use lib.ListN.{length, getD, take, drop}
+use lib.ListN.{length, take, drop}
 use lib.Seq.{take-append-seam}
 use borrow.Author.Tests.{leb-true, leb-false, le-leb, lt-leb}
 use Rattle.model.specs.Rules.{RuleSet}
 use Rattle.model.specs.WellFormed.{WellFormed}
-use Rattle.model.specs.Format.{Parsed, good, bad, ruleSet, read, bytesOf}
-use Rattle.model.specs.Form.{formLength, encoded, decoded, Transfer, done, refusal, Reading, reading, Writing, writing}
-use Rattle.laws.proofs.Bools.{case, not-both}
-use Rattle.format_laws.proofs.Parsers.{Meets, meets-good, meets-value, meets-fault}
-use Rattle.format_laws.proofs.Format.{ruleSet-meets, wellFormed-shaped}
-use Rattle.format_laws.proofs.Bytes.{Bytes, read-well-formed, read-end, bytes-of-read, ruleSet-of-read, drop-bytesOf, read-of-bytes}
-use Rattle.format_laws.proofs.Form.{encoded-length, decoded-encoded, decoded-shaped}
+use Rattle.model.specs.Format.{Parsed, good, bad, ruleSet, read, content, bytesOf}
+use Rattle.model.specs.Form.{formLength, encoded, decoded, done, refusal, Reading, reading, Writing, writing}
+use Rattle.laws.proofs.Bools.{case}
+use Rattle.format_laws.proofs.Parsers.{Meets, meets-value, meets-fault}
+use Rattle.format_laws.proofs.Format.{ruleSet-meets}
+use Rattle.format_laws.proofs.Bytes.{Bytes, read-well-formed, read-end, bytes-of-read, ruleSet-of-read, drop-bytesOf, read-bytesOf, read-of-bytes}
+use Rattle.format_laws.proofs.Form.{decoded-encoded, decoded-shaped}
 
 -- what the bytes of the rule set of a form meet
 module _ (form : List ℕ) where
@@ -37,6 +37,11 @@ module _ (form : List ℕ) where
 
     pub decoded-read : read (bytesOf (decoded form)) ≡ good (decoded form) (length (bytesOf (decoded form)))
     decoded-read = read-of-bytes (decoded form) decoded-well-formed
+
+  -- the reader of these bytes would find the same fault at the same place, wherever four bytes have room for their length
+  pub decoded-fault-read : (n p : ℕ) → ruleSet (bytesOf (decoded form)) ≡ bad n p → length (content (decoded form)) < 4294967296
+      → read (bytesOf (decoded form)) ≡ bad n p
+  decoded-fault-read n p e h = read-bytesOf (decoded form) h ∙ e
 
   -- 4 to 9 alone, at a byte, and only for what is not well-formed
   pub decoded-fault : (n p : ℕ) → ruleSet (bytesOf (decoded form)) ≡ bad n p
@@ -136,6 +141,12 @@ written-read form out other n e h =
     let d = writing-done form out n e in
     reading-good (take n (writing form out .bytes)) other (decoded form) n h
     (ap read (d .bytes) ∙ read-of-bytes (decoded form) (d .wellFormed) ∙ ap (good (decoded form)) (sym (d .count)))
+
+-- so the form holds again what the written one held
+pub written-read-decoded : (form out other : List ℕ) (n : ℕ) → writing form out .answer ≡ done n → formLength ≤ length other
+    → decoded (reading (take n (writing form out .bytes)) other .form) ≡ decoded form
+written-read-decoded form out other n e h =
+    ap (λ (x : Reading). decoded (x .form)) (written-read form out other n e h) ∙ decoded-encoded (writing-done form out n e .wellFormed) (drop formLength other)
 
 -- Read, then written: the same bytes.
 pub read-written : (bytes form out : List ℕ) (n : ℕ) → Bytes bytes → reading bytes form .answer ≡ done n → length bytes ≤ length out
