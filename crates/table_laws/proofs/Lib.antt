@@ -1,0 +1,4 @@
+pub mod Rows
+pub mod Numbering
+pub mod Terms
+pub mod Facts

@@ -1,0 +1,1 @@
+// laws of the caller's tables and of the text, in proofs/
