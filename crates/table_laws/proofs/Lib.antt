@@ -2,3 +2,5 @@ pub mod Rows
 pub mod Numbering
 pub mod Terms
 pub mod Facts
+pub mod Refusals
+pub mod Courses
