@@ -4,3 +4,4 @@ pub mod Terms
 pub mod Facts
 pub mod Refusals
 pub mod Courses
+pub mod Functions
