@@ -5,3 +5,4 @@ pub mod Facts
 pub mod Refusals
 pub mod Courses
 pub mod Functions
+pub mod Lines
