@@ -6,3 +6,4 @@ pub mod Refusals
 pub mod Courses
 pub mod Functions
 pub mod Lines
+pub mod Text

@@ -100,6 +100,11 @@ pub length-spaced-cons : (n : ℕ) (ns : List ℕ) (d : ℕ) → n < 10 ^ suc d 
 unfolding collect decimal
 length-spaced-cons n ns d h = let k = length-digits 20 n d h in rw length-append (omega arith)
 
+-- whatever the number is
+pub length-spaced-most : (n : ℕ) (ns : List ℕ) → length (spaced (n ∷ ns)) ≤ 21 + length (spaced ns)
+unfolding collect decimal
+length-spaced-most n ns = let k = length-digits-most 20 n in rw length-append (omega arith)
+
 pub length-spaced : (ns : List ℕ) (d : ℕ) → ((n : ℕ) → List·Memᴰ n ns → n < 10 ^ suc d) → length (spaced ns) ≤ length ns * suc (suc d)
 unfolding collect
 length-spaced [] d h = omega arith
