@@ -7,3 +7,4 @@ pub mod Courses
 pub mod Functions
 pub mod Lines
 pub mod Text
+pub mod Recorded

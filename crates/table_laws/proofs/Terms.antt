@@ -33,6 +33,10 @@ length-termRow (plain e k) = ap length e
 length-termRow {ts = ts} (marked {f} {us} h l k) =
     length-padded 10 (f ∷ length (list us) ∷ map (number ts) (list us)) (rw (length-map (list us) (number ts)) (omega arith))
 
+pub length-termRow-mem : (c : ℕ → Term) (ts us : List Term) → TermList c ts us → {t : Term} → List·Memᴰ t (ts ++ us) → length (termRow ts t) ≡ 10
+length-termRow-mem c ts us h {t} m =
+    subst (λ (x : Term). length (termRow ts x) ≡ 10) (getD-number t star m) (length-termRow (h (number (ts ++ us) t) (number-below t m)))
+
 -- one record, read
 
 abbrev fromRow : (ℕ → Term) → (ℕ → Term) → ℕ → List ℕ → Term
@@ -54,11 +58,8 @@ map-read g n [] h = refl
 map-read g n (u ∷ us) h = ap₂ (λ (x : Term) (xs : List Term). x ∷ xs) (h u (List·Memᴰ·head refl)) (map-read g n us (λ a m. h a (List·Memᴰ·tail m)))
 
 module _ (c : ℕ → Term) (ts us : List Term) (h : TermList c ts us) (table rest : List ℕ) (e : table ≡ collect (termRow ts) (ts ++ us) ++ rest) where
-  row-table : (i : ℕ) → i < length (ts ++ us) → row 10 i table ≡ termRow ts (getD (ts ++ us) i star)
-  row-table i l =
-      ap (row 10 i) e
-      ∙ row-collect 10 (termRow ts) (ts ++ us) rest star
-      (λ t m. subst (λ (x : Term). length (termRow ts x) ≡ 10) (getD-number t star m) (length-termRow (h (number (ts ++ us) t) (number-below t m)))) i l
+  pub row-table : (i : ℕ) → i < length (ts ++ us) → row 10 i table ≡ termRow ts (getD (ts ++ us) i star)
+  row-table i l = ap (row 10 i) e ∙ row-collect 10 (termRow ts) (ts ++ us) rest star (λ t m. length-termRow-mem c ts us h m) i l
 
   termAt-recorded : (k i : ℕ) (t : Term) → row 10 i table ≡ termRow ts t → Recordable c ts i t
       → ((j : ℕ) → j < i → j < length (ts ++ us) → termAt c k table j ≡ getD (ts ++ us) j star) → termAt c (suc k) table i ≡ t
