@@ -8,3 +8,4 @@ pub mod Functions
 pub mod Lines
 pub mod Text
 pub mod Recorded
+pub mod Fronts

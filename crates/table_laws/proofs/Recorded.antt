@@ -14,7 +14,7 @@ use Rattle.model.specs.Tables.{Checked, termRow, factRow, fronted, recorded, te
 use Rattle.model.specs.Spelled.{termAt, spelledTerms, spelledFacts}
 use Rattle.table_laws.proofs.Rows.{fronted-append, length-collect, length-fronted, drop-fronted}
 use Rattle.table_laws.proofs.Numbering.{number-below, getD-number}
-use Rattle.table_laws.proofs.Terms.{TermList, termAt-table, spelledTerms-table, length-termRow-mem}
+use Rattle.table_laws.proofs.Terms.{TermList, termAt-table, spelledTerms-table}
 use Rattle.table_laws.proofs.Facts.{Recordable, spelledFacts-table, length-factRow}
 
 -- a stage that the tables can hold, and more terms after its own
@@ -22,12 +22,12 @@ pub record Recorded (arities : List ℕ) (s : Stage) (us : List Term) : Type 0 w
   pub terms : TermList (λ j. star) (s .terms) us
   pub facts : (f : Fact) → List·Memᴰ f (s .facts) → Recordable arities (s .terms) f
 
-recorded-terms : (v : Verdict) (s : Stage) (us : List Term) (terms₀ facts₀ : List ℕ)
+pub recorded-terms : (v : Verdict) (s : Stage) (us : List Term) (terms₀ facts₀ : List ℕ)
     → recorded v s us terms₀ facts₀ .terms ≡ fronted termsFront (collect (termRow (s .terms)) (s .terms ++ us)) terms₀
 unfolding recorded
 recorded-terms v s us terms₀ facts₀ = refl
 
-recorded-facts : (v : Verdict) (s : Stage) (us : List Term) (terms₀ facts₀ : List ℕ)
+pub recorded-facts : (v : Verdict) (s : Stage) (us : List Term) (terms₀ facts₀ : List ℕ)
     → recorded v s us terms₀ facts₀ .facts ≡ fronted factsFront (collect (factRow (s .terms)) (s .facts)) facts₀
 unfolding recorded
 recorded-facts v s us terms₀ facts₀ = refl

@@ -1,13 +1,15 @@
 -- Tables of rows of one width: where a row stands, how long a table is, and what padding and replacing the front leave. Assumes nothing.
 use mathlib.Core.Path.{_≡_, refl, sym, ap, _∙_}
-use mathlib.Core.List.{List, [], _∷_, _++_, append-assoc, append-nil, List·Memᴰ, List·Memᴰ·head, List·Memᴰ·tail}
+use mathlib.Core.Logic.{_⊎_, inl, inr, ⊎-elim}
+use mathlib.Core.List.{List, [], _∷_, _++_, append-assoc, List·Memᴰ, List·Memᴰ·head, List·Memᴰ·tail, List·Memᴰ·append-cases, Memᴰ·append-right}
 use Prim.Native.Nat.{ℕ, zero, suc, _+_, _-_, _*_, _≤_, _<_}
 use native.Mathlib.Nat.{zero-mul, suc-mul, add-comm}
 use native.Mathlib.Omega.{arith}
-use lib.ListN.{length, getD, take, drop, replicate, length-append, length-drop, length-replicate, List·getD-append}
-use lib.Seq.{take-at, drop-at, drop-drop, getD-append-add, getD-drop}
+use lib.ListN.{length, getD, take, drop, replicate, length-append, length-drop, length-replicate, take-append-drop, List·getD-append}
+use lib.Seq.{take-at, drop-at, drop-drop}
 use Rattle.model.specs.Lists.{collect, padded, row}
 use Rattle.model.specs.Tables.{fronted}
+use Rattle.stage_laws.proofs.Lists.{mem-replicate}
 
 -- the first row, and the rows after it
 
@@ -66,3 +68,22 @@ take-fronted n xs table h = take-at (padded n xs) (drop n table) n (length-padde
 pub drop-fronted : (n : ℕ) (xs table : List ℕ) → length xs ≤ n → drop n (fronted n xs table) ≡ drop n table
 unfolding fronted
 drop-fronted n xs table h = drop-at (padded n xs) (drop n table) n (length-padded n xs h)
+
+-- by their elements
+
+pub padded-mem : (n : ℕ) (xs : List ℕ) {x : ℕ} → List·Memᴰ x (padded n xs) → List·Memᴰ x xs ⊎ (x ≡ 0)
+unfolding padded
+padded-mem n xs {x} m =
+    ⊎-elim (λ (k : List·Memᴰ x xs). inl k) (λ (k : List·Memᴰ x (replicate (n - length xs) 0)). inr (mem-replicate (n - length xs) k)) (List·Memᴰ·append-cases xs m)
+
+mem-drop : (n : ℕ) (xs : List ℕ) {x : ℕ} → List·Memᴰ x (drop n xs) → List·Memᴰ x xs
+mem-drop n xs {x} m = rw (take-append-drop n xs) at (Memᴰ·append-right (take n xs) m)
+
+-- numbers of a bound stay within it
+pub fronted-within : (w n : ℕ) (xs table : List ℕ) → ((x : ℕ) → List·Memᴰ x xs → x ≤ w) → ((x : ℕ) → List·Memᴰ x table → x ≤ w) → (x : ℕ)
+    → List·Memᴰ x (fronted n xs table) → x ≤ w
+unfolding fronted
+fronted-within w n xs table h k x m =
+    ⊎-elim
+    (λ (i : List·Memᴰ x (padded n xs)). ⊎-elim (λ (j : List·Memᴰ x xs). h x j) (λ (j : x ≡ 0). omega arith) (padded-mem n xs i))
+    (λ (i : List·Memᴰ x (drop n table)). k x (mem-drop n table i)) (List·Memᴰ·append-cases (padded n xs) m)

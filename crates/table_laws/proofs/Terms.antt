@@ -33,9 +33,10 @@ length-termRow (plain e k) = ap length e
 length-termRow {ts = ts} (marked {f} {us} h l k) =
     length-padded 10 (f ∷ length (list us) ∷ map (number ts) (list us)) (rw (length-map (list us) (number ts)) (omega arith))
 
-pub length-termRow-mem : (c : ℕ → Term) (ts us : List Term) → TermList c ts us → {t : Term} → List·Memᴰ t (ts ++ us) → length (termRow ts t) ≡ 10
-length-termRow-mem c ts us h {t} m =
-    subst (λ (x : Term). length (termRow ts x) ≡ 10) (getD-number t star m) (length-termRow (h (number (ts ++ us) t) (number-below t m)))
+pub recordable-mem : (c : ℕ → Term) (ts us : List Term) → TermList c ts us → {t : Term} → List·Memᴰ t (ts ++ us)
+    → Recordable c ts (number (ts ++ us) t) t
+recordable-mem c ts us h {t} m =
+    subst (λ (x : Term). Recordable c ts (number (ts ++ us) t) x) (getD-number t star m) (h (number (ts ++ us) t) (number-below t m))
 
 -- one record, read
 
@@ -59,7 +60,7 @@ map-read g n (u ∷ us) h = ap₂ (λ (x : Term) (xs : List Term). x ∷ xs) (h 
 
 module _ (c : ℕ → Term) (ts us : List Term) (h : TermList c ts us) (table rest : List ℕ) (e : table ≡ collect (termRow ts) (ts ++ us) ++ rest) where
   pub row-table : (i : ℕ) → i < length (ts ++ us) → row 10 i table ≡ termRow ts (getD (ts ++ us) i star)
-  row-table i l = ap (row 10 i) e ∙ row-collect 10 (termRow ts) (ts ++ us) rest star (λ t m. length-termRow-mem c ts us h m) i l
+  row-table i l = ap (row 10 i) e ∙ row-collect 10 (termRow ts) (ts ++ us) rest star (λ t m. length-termRow (recordable-mem c ts us h m)) i l
 
   termAt-recorded : (k i : ℕ) (t : Term) → row 10 i table ≡ termRow ts t → Recordable c ts i t
       → ((j : ℕ) → j < i → j < length (ts ++ us) → termAt c k table j ≡ getD (ts ++ us) j star) → termAt c (suc k) table i ≡ t
