@@ -1,0 +1,1 @@
+// The check: its definitions over rows, in specs/.
