@@ -9,3 +9,4 @@ pub mod Lines
 pub mod Text
 pub mod Recorded
 pub mod Fronts
+pub mod Stages
