@@ -10,3 +10,4 @@ pub mod Text
 pub mod Recorded
 pub mod Fronts
 pub mod Stages
+pub mod Spelled
