@@ -11,3 +11,4 @@ pub mod Recorded
 pub mod Fronts
 pub mod Stages
 pub mod Spelled
+pub mod Checked
