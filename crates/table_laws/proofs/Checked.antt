@@ -66,3 +66,95 @@ checked-cyclic-shown bytes terms₀ facts₀ b i n f t r e =
     let h = looping-judged bytes terms₀ facts₀ b i n f t r e in
     subst (λ (c : Checked). take 1 (cyclicTerms (entries b) (stage b (n - 1))) ≡ termAt (λ j. star) (suc t) (c .terms) t ∷ []) (sym (h .tables))
     (cyclic-shown b (read-well-formed bytes b i r) (h .verdict) terms₀ facts₀)
+
+-- what never changes
+
+pub record Kept (terms₀ facts₀ : List ℕ) (c : Checked) : Type 0 where
+  pub terms-beyond : drop termsFront (c .terms) ≡ drop termsFront terms₀
+  pub facts-beyond : drop factsFront (c .facts) ≡ drop factsFront facts₀
+  pub terms-length : length (c .terms) ≡ length terms₀
+  pub facts-length : length (c .facts) ≡ length facts₀
+
+-- no number above a bound
+pub record Bounded (w : ℕ) (ts fs : List ℕ) : Type 0 where
+  pub terms : (x : ℕ) → List·Memᴰ x ts → x ≤ w
+  pub facts : (x : ℕ) → List·Memᴰ x fs → x ≤ w
+
+module _ {b : RuleSet} {v : Verdict} {n f t : ℕ} {more : List Term} (h : Held b v n f t more) (terms₀ facts₀ : List ℕ) where
+  held-kept : Fronts terms₀ facts₀ → Kept terms₀ facts₀ (left b v terms₀ facts₀)
+  held-kept l =
+      subst (λ (c : Checked). Kept terms₀ facts₀ c) (sym (h .tables terms₀ facts₀))
+      (record {
+        terms-beyond = terms-beyond (h .records) (h .within) v terms₀ facts₀;
+        facts-beyond = facts-beyond (h .records) (h .within) v terms₀ facts₀;
+        terms-length = terms-length (h .records) (h .within) v terms₀ facts₀ (l .terms);
+        facts-length = facts-length (h .records) (h .within) v terms₀ facts₀ (l .facts);
+      })
+
+  held-bounded : (w : ℕ) → 2048 ≤ w → Bounded w terms₀ facts₀ → Bounded w (left b v terms₀ facts₀ .terms) (left b v terms₀ facts₀ .facts)
+  held-bounded w l k =
+      subst (λ (c : Checked). Bounded w (c .terms) (c .facts)) (sym (h .tables terms₀ facts₀))
+      (record {
+        terms = terms-small (h .records) (h .within) v terms₀ facts₀ w l (k .terms);
+        facts = facts-small (h .records) (h .within) v terms₀ facts₀ w l (k .facts);
+      })
+
+refused-kept : (b : RuleSet) (n p : ℕ) (terms₀ facts₀ : List ℕ) → Fronts terms₀ facts₀ → Kept terms₀ facts₀ (left b (refused n p) terms₀ facts₀)
+refused-kept b n p terms₀ facts₀ l =
+    subst (λ (c : Checked). Kept terms₀ facts₀ c) (sym (left-refused b n p terms₀ facts₀))
+    (record {
+      terms-beyond = drop-fronted termsFront [] terms₀ (omega arith);
+      facts-beyond = drop-fronted factsFront [] facts₀ (omega arith);
+      terms-length = length-fronted termsFront [] terms₀ (omega arith) (l .terms);
+      facts-length = length-fronted factsFront [] facts₀ (omega arith) (l .facts);
+    })
+
+refused-bounded : (b : RuleSet) (n p : ℕ) (terms₀ facts₀ : List ℕ) (w : ℕ) → Bounded w terms₀ facts₀
+    → Bounded w (left b (refused n p) terms₀ facts₀ .terms) (left b (refused n p) terms₀ facts₀ .facts)
+refused-bounded b n p terms₀ facts₀ w k =
+    subst (λ (c : Checked). Bounded w (c .terms) (c .facts)) (sym (left-refused b n p terms₀ facts₀))
+    (record {
+      terms = fronted-within w termsFront [] terms₀ (λ x m. absurd (List·Memᴰ·not-nil m)) (k .terms);
+      facts = fronted-within w factsFront [] facts₀ (λ x m. absurd (List·Memᴰ·not-nil m)) (k .facts);
+    })
+
+module _ (b : RuleSet) (w : WellFormed b) (terms₀ facts₀ : List ℕ) where
+  pub left-kept : Fronts terms₀ facts₀ → (v : Verdict) → verdict b ≡ v → Kept terms₀ facts₀ (left b v terms₀ facts₀)
+  left-kept l (accepted n f t) e = held-kept (accepted-held b w e) terms₀ facts₀ l
+  left-kept l (looping n f t) e = held-kept (looping-held b w e) terms₀ facts₀ l
+  left-kept l (refused n p) e = refused-kept b n p terms₀ facts₀ l
+
+  pub left-bounded : (c : ℕ) → 2048 ≤ c → Bounded c terms₀ facts₀ → (v : Verdict) → verdict b ≡ v
+      → Bounded c (left b v terms₀ facts₀ .terms) (left b v terms₀ facts₀ .facts)
+  left-bounded c l k (accepted n f t) e = held-bounded (accepted-held b w e) terms₀ facts₀ c l k
+  left-bounded c l k (looping n f t) e = held-bounded (looping-held b w e) terms₀ facts₀ c l k
+  left-bounded c l k (refused n p) e = refused-bounded b n p terms₀ facts₀ c k
+
+-- for every input: beyond the fronts nothing changes, and no length
+pub checked-kept : (bytes terms₀ facts₀ : List ℕ) → Kept terms₀ facts₀ (checked bytes terms₀ facts₀)
+checked-kept bytes terms₀ facts₀ = go (course bytes terms₀ facts₀)
+  where
+    same : {v : Verdict} → checked bytes terms₀ facts₀ ≡ record { verdict = v; terms = terms₀; facts = facts₀ } → Kept terms₀ facts₀ (checked bytes terms₀ facts₀)
+    same e =
+        subst (λ (c : Checked). Kept terms₀ facts₀ c) (sym e)
+        (record { terms-beyond = refl; facts-beyond = refl; terms-length = refl; facts-length = refl })
+
+    go : Course bytes terms₀ facts₀ → Kept terms₀ facts₀ (checked bytes terms₀ facts₀)
+    go (short e) = same e
+    go (faulty n p i j h r e) = same e
+    go (judged b i h r e) = subst (λ (c : Checked). Kept terms₀ facts₀ c) (sym e) (left-kept b (read-well-formed bytes b i r) terms₀ facts₀ h (verdict b) refl)
+
+-- tables without a number above 65,535, or any bound from 2,048 on, are left so
+pub checked-bounded : (bytes terms₀ facts₀ : List ℕ) (w : ℕ) → 2048 ≤ w → Bounded w terms₀ facts₀
+    → Bounded w (checked bytes terms₀ facts₀ .terms) (checked bytes terms₀ facts₀ .facts)
+checked-bounded bytes terms₀ facts₀ w l k = go (course bytes terms₀ facts₀)
+  where
+    same : {v : Verdict} → checked bytes terms₀ facts₀ ≡ record { verdict = v; terms = terms₀; facts = facts₀ }
+        → Bounded w (checked bytes terms₀ facts₀ .terms) (checked bytes terms₀ facts₀ .facts)
+    same e = subst (λ (c : Checked). Bounded w (c .terms) (c .facts)) (sym e) k
+
+    go : Course bytes terms₀ facts₀ → Bounded w (checked bytes terms₀ facts₀ .terms) (checked bytes terms₀ facts₀ .facts)
+    go (short e) = same e
+    go (faulty n p i j h r e) = same e
+    go (judged b i h r e) =
+        subst (λ (c : Checked). Bounded w (c .terms) (c .facts)) (sym e) (left-bounded b (read-well-formed bytes b i r) terms₀ facts₀ w l k (verdict b) refl)
