@@ -12,3 +12,4 @@ pub mod Fronts
 pub mod Stages
 pub mod Spelled
 pub mod Checked
+pub mod Shown

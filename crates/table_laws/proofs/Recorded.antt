@@ -37,11 +37,11 @@ module _ {arities : List ℕ} {s : Stage} {us : List Term} (h : Recorded arities
   left = recorded v s us terms₀ facts₀
 
   -- how the tables begin
-  terms-begin : (rest : List ℕ) × (left .terms ≡ collect (termRow (s .terms)) (s .terms ++ us) ++ rest)
+  pub terms-begin : (rest : List ℕ) × (left .terms ≡ collect (termRow (s .terms)) (s .terms ++ us) ++ rest)
   terms-begin =
       let (rest, e) = fronted-append termsFront (collect (termRow (s .terms)) (s .terms ++ us)) terms₀ in (rest, recorded-terms v s us terms₀ facts₀ ∙ e)
 
-  facts-begin : (rest : List ℕ) × (left .facts ≡ collect (factRow (s .terms)) (s .facts) ++ rest)
+  pub facts-begin : (rest : List ℕ) × (left .facts ≡ collect (factRow (s .terms)) (s .facts) ++ rest)
   facts-begin =
       let (rest, e) = fronted-append factsFront (collect (factRow (s .terms)) (s .facts)) facts₀ in (rest, recorded-facts v s us terms₀ facts₀ ∙ e)
 
