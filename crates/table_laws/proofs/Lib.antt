@@ -13,3 +13,4 @@ pub mod Stages
 pub mod Spelled
 pub mod Checked
 pub mod Shown
+pub mod Printed
