@@ -1,0 +1,3 @@
+pub mod Maps
+pub mod Skolem
+pub mod Starred

@@ -1,0 +1,67 @@
+-- Maps of terms that commute with Skolem functions carry instances, head facts and outputs along. Assumes nothing.
+use mathlib.Core.Path.{_≡_, refl, sym, ap, ap₂, _∙_}
+use mathlib.Core.Bool.{Bool, true, false}
+use mathlib.Core.Logic.{_⊎_, inl, inr}
+use mathlib.Core.List.{List, [], _∷_, map, List·Memᴰ, List·Memᴰ·head, List·Memᴰ·tail, Memᴰ·cast}
+use Prim.Native.Nat.{ℕ, suc, _+_}
+use lib.Dec.{eqb}
+use Rattle.model.specs.Lists.{index}
+use Rattle.model.specs.Term.{Term, star, skolem, terms}
+use Rattle.model.specs.Rules.{Atom, Disjunct, inBody, frontier, existential}
+use Rattle.model.specs.Triggers.{Fact, assign, instantiate, headTerm, headFacts}
+use Rattle.laws.proofs.Bools.{case}
+use Rattle.laws.proofs.Lists.{mem-map}
+use Rattle.laws.proofs.Facts.{fact-path}
+use Rattle.laws.proofs.Triggers.{map-agree, headTerm-universal, headTerm-existential}
+
+module _ {ℓ ℓ′ ℓ″} {A : Type ℓ} {B : Type ℓ′} {C : Type ℓ″} where
+  pub map-map : (g : B → C) (f : A → B) (xs : List A) → map g (map f xs) ≡ map (λ (x : A). g (f x)) xs
+  map-map g f [] = refl
+  map-map g f (x ∷ xs) = ap (λ (ys : List C). g (f x) ∷ ys) (map-map g f xs)
+
+abbrev pub mapFact : (Term → Term) → Fact → Fact
+mapFact h f = record { predicate = f .predicate; arguments = map h (f .arguments) }
+
+pub record Commutes (h : Term → Term) : Type 0 where
+  pub star : h star ≡ star
+  pub skolem : (f : ℕ) (ts : List Term) → h (skolem f (terms ts)) ≡ skolem f (terms (map h ts))
+
+module _ (h : Term → Term) (c : Commutes h) where
+  pub map-assign : (vs : List ℕ) (ts : List Term) (v : ℕ) → h (assign vs ts v) ≡ assign vs (map h ts) v
+  unfolding assign
+  map-assign [] ts v = c .star
+  map-assign (u ∷ us) [] v = c .star
+  map-assign (u ∷ us) (t ∷ ts) v = go (map-assign us ts v) (case (eqb u v))
+    where
+      go : h (assign us ts v) ≡ assign us (map h ts) v → (eqb u v ≡ true) ⊎ (eqb u v ≡ false) → h (assign (u ∷ us) (t ∷ ts) v) ≡ assign (u ∷ us) (h t ∷ map h ts) v
+      go below (inl e) = rw (e, assign)
+      go below (inr e) = rw (e, assign) below
+
+  pub map-instantiate : (σ : ℕ → Term) (a : Atom) → mapFact h (instantiate σ a) ≡ instantiate (λ (v : ℕ). h (σ v)) a
+  unfolding instantiate
+  map-instantiate σ a = fact-path refl (map-map h σ (a .variables))
+
+  pub map-headTerm : (d : Disjunct) (σ : ℕ → Term) (v : ℕ) → h (headTerm d σ v) ≡ headTerm d (λ (u : ℕ). h (σ u)) v
+  map-headTerm d σ v = go (case (inBody (d .rule) v))
+    where
+      f : ℕ
+      f = d .before + suc (index eqb v (existential (d .rule) (d .atoms)))
+
+      go : (inBody (d .rule) v ≡ true) ⊎ (inBody (d .rule) v ≡ false) → h (headTerm d σ v) ≡ headTerm d (λ (u : ℕ). h (σ u)) v
+      go (inl e) = ap h (headTerm-universal d σ v e) ∙ sym (headTerm-universal d (λ (u : ℕ). h (σ u)) v e)
+      go (inr e) =
+          ap h (headTerm-existential d σ v e) ∙ c .skolem f (map σ (frontier (d .rule)))
+          ∙ ap (λ (ts : List Term). skolem f (terms ts)) (map-map h σ (frontier (d .rule)))
+          ∙ sym (headTerm-existential d (λ (u : ℕ). h (σ u)) v e)
+
+  pub map-headFacts : (σ : ℕ → Term) (d : Disjunct) → map (mapFact h) (headFacts σ d) ≡ headFacts (λ (v : ℕ). h (σ v)) d
+  unfolding headFacts instantiate
+  map-headFacts σ d =
+      map-map (mapFact h) (instantiate (headTerm d σ)) (d .atoms)
+      ∙ map-agree (λ (a : Atom). mapFact h (instantiate (headTerm d σ) a)) (instantiate (headTerm d (λ (v : ℕ). h (σ v)))) (d .atoms)
+      (λ a m.
+      map-instantiate (headTerm d σ) a
+      ∙ fact-path refl (map-agree (λ (v : ℕ). h (headTerm d σ v)) (headTerm d (λ (v : ℕ). h (σ v))) (a .variables) (λ v k. map-headTerm d σ v)))
+
+  pub mem-map-headFacts : (σ : ℕ → Term) (d : Disjunct) {f : Fact} → List·Memᴰ f (headFacts σ d) → List·Memᴰ (mapFact h f) (headFacts (λ (v : ℕ). h (σ v)) d)
+  mem-map-headFacts σ d m = rw (map-headFacts σ d) at (mem-map (mapFact h) m)

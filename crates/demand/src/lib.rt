@@ -1,0 +1,1 @@
+// demand 3 over the definitions, in proofs/
