@@ -1,3 +1,4 @@
 pub mod Maps
 pub mod Skolem
 pub mod Starred
+pub mod Loaded
