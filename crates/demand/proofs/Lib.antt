@@ -2,3 +2,5 @@ pub mod Maps
 pub mod Skolem
 pub mod Starred
 pub mod Loaded
+pub mod Subterms
+pub mod Origins
