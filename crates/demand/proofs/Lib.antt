@@ -4,3 +4,5 @@ pub mod Starred
 pub mod Loaded
 pub mod Subterms
 pub mod Origins
+pub mod Closure
+pub mod TestSet
