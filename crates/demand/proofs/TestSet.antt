@@ -136,3 +136,84 @@ binding-step {b} {fs} x {f} {ts} {d} m i j =
     let (o, e) = binding-origin x m in
     subst₂ (λ (c : Disjunct) (τ : ℕ → Term). Step fs ts c τ) (owner-unique b f (o .among) i (o .owner) j) (sym e)
     (record { arguments = o .arguments; body = o .body; head = o .head })
+
+module _ {b : RuleSet} {fs : List Fact} (x : Explained b fs) (σ : ℕ → Term) where
+  abbrev restored : Term → Term
+  restored = back (binding x) σ
+
+  commutes : Commutes restored
+  commutes = back-commutes (binding x) σ
+
+  -- the facts that must have made a term are, taken back, those of the step that made it
+  module _ (f : ℕ) (ts : Terms) (d : Disjunct) (s : Step fs (backAll (binding x) σ ts) d (binding x (restored (skolem f ts)))) where
+    restored-template : (v : ℕ) → restored (template (skolem f ts) ts (d .rule) v) ≡ binding x (restored (skolem f ts)) v
+    unfolding template back
+    restored-template v = go (case (member v (frontier (d .rule))))
+      where
+        τ : ℕ → Term
+        τ = binding x (restored (skolem f ts))
+
+        go : (member v (frontier (d .rule)) ≡ true) ⊎ (member v (frontier (d .rule)) ≡ false) → restored (template (skolem f ts) ts (d .rule) v) ≡ τ v
+        go (inl e) =
+            rw (e, template)
+            (map-assign restored commutes (frontier (d .rule)) (list ts) v
+            ∙ ap (λ (us : List Term). assign (frontier (d .rule)) us v) (sym (s .arguments ∙ backAll-list (binding x) σ ts))
+            ∙ assign-map (frontier (d .rule)) τ (member-mem v (frontier (d .rule)) e))
+        go (inr e) = rw (e, template)
+
+    body-restored : (a : Atom) → mapFact restored (instantiate (template (skolem f ts) ts (d .rule)) a) ≡ instantiate (binding x (restored (skolem f ts))) a
+    body-restored a =
+        map-instantiate restored commutes (template (skolem f ts) ts (d .rule)) a
+        ∙ instantiate-agree (λ (v : ℕ). restored (template (skolem f ts) ts (d .rule) v)) (binding x (restored (skolem f ts))) a (λ v k. restored-template v)
+
+    head-restored : headFacts (λ (v : ℕ). restored (template (skolem f ts) ts (d .rule) v)) d ≡ headFacts (binding x (restored (skolem f ts))) d
+    head-restored =
+        headFacts-agree d (λ (v : ℕ). restored (template (skolem f ts) ts (d .rule) v)) (binding x (restored (skolem f ts))) (λ v k. restored-template v)
+
+    origin-restored : {g : Fact} → List·Memᴰ g (origin (skolem f ts) ts d) → List·Memᴰ (mapFact restored g) fs
+    unfolding origin
+    origin-restored {g} m = go (List·Memᴰ·append-cases (map (instantiate (template (skolem f ts) ts (d .rule))) (d .rule .body)) m)
+      where
+        go : List·Memᴰ g (map (instantiate (template (skolem f ts) ts (d .rule))) (d .rule .body)) ⊎ List·Memᴰ g (headFacts (template (skolem f ts) ts (d .rule)) d)
+            → List·Memᴰ (mapFact restored g) fs
+        go (inl k) =
+            let (a, i, e) = map-mem (instantiate (template (skolem f ts) ts (d .rule))) (d .rule .body) k in
+            Memᴰ·cast (ap (mapFact restored) e ∙ body-restored a) (s .body a i)
+        go (inr k) =
+            s .head (mapFact restored g) (rw head-restored at (mem-map-headFacts restored commutes (template (skolem f ts) ts (d .rule)) d k))
+
+  first : (t : Term) (ts : Terms) → ((s : Term) → List·Memᴰ s (list (more t ts)) → List·Memᴰ (restored s) (subtermsOf fs))
+      → List·Memᴰ (restored t) (subtermsOf fs)
+  unfolding list
+  first t ts h = h t (List·Memᴰ·head refl)
+
+  rest : (t : Term) (ts : Terms) → ((s : Term) → List·Memᴰ s (list (more t ts)) → List·Memᴰ (restored s) (subtermsOf fs)) → (s : Term)
+      → List·Memᴰ s (list ts) → List·Memᴰ (restored s) (subtermsOf fs)
+  unfolding list
+  rest t ts h s m = h s (List·Memᴰ·tail m)
+
+  mutual
+    unfolding made madeAll back backAll
+
+    made-restored : (t : Term) {g : Fact} → List·Memᴰ (restored t) (subtermsOf fs) → List·Memᴰ g (made t (disjunctsOf (entries b))) → List·Memᴰ (mapFact restored g) fs
+    made-restored star i m = absurd (List·Memᴰ·not-nil m)
+    made-restored (constant c) i m = absurd (List·Memᴰ·not-nil m)
+    made-restored (apart p) i m = absurd (List·Memᴰ·not-nil m)
+    made-restored (fresh t v) i m = absurd (List·Memᴰ·not-nil m)
+    made-restored (skolem f ts) {g} i m =
+        ⊎-elim
+        (λ (k : List·Memᴰ g (collect (origin (skolem f ts) ts) (keep (owns f) (disjunctsOf (entries b))))).
+        let (d, j, n) = collect-mem (origin (skolem f ts) ts) (keep (owns f) (disjunctsOf (entries b))) k in
+        let (p, q) = keep-mem (owns f) (disjunctsOf (entries b)) j in
+        origin-restored f ts d (binding-step x i p q) n)
+        (λ (k : List·Memᴰ g (madeAll ts (disjunctsOf (entries b)))).
+        madeAll-restored ts (λ s j. subtermsOf-argument fs i (rw (backAll-list (binding x) σ ts) (mem-map restored j))) k)
+        (List·Memᴰ·append-cases (collect (origin (skolem f ts) ts) (keep (owns f) (disjunctsOf (entries b)))) m)
+
+    madeAll-restored : (ts : Terms) {g : Fact} → ((s : Term) → List·Memᴰ s (list ts) → List·Memᴰ (restored s) (subtermsOf fs))
+        → List·Memᴰ g (madeAll ts (disjunctsOf (entries b))) → List·Memᴰ (mapFact restored g) fs
+    madeAll-restored none h m = absurd (List·Memᴰ·not-nil m)
+    madeAll-restored (more t ts) {g} h m =
+        ⊎-elim (λ (k : List·Memᴰ g (made t (disjunctsOf (entries b)))). made-restored t (first t ts h) k)
+        (λ (k : List·Memᴰ g (madeAll ts (disjunctsOf (entries b)))). madeAll-restored ts (rest t ts h) k)
+        (List·Memᴰ·append-cases (made t (disjunctsOf (entries b))) m)
