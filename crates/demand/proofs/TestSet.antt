@@ -20,11 +20,11 @@ use Rattle.model.specs.Chase.{satisfied, datalogDone}
 use Rattle.laws.proofs.Bools.{case}
 use Rattle.laws.proofs.Lists.{any-eq-mem, any-eq-not-mem, keep-mem, member-mem, collect-mem, map-mem, mem-map, extend-mem}
 use Rattle.laws.proofs.Terms.{same-decides}
-use Rattle.laws.proofs.Rules.{mem-inBody, mem-variablesOf, universal-mem}
+use Rattle.laws.proofs.Rules.{mem-inBody, mem-variablesOf, universal-mem, entries-mem}
 use Rattle.laws.proofs.Triggers.{Loaded, Agree, assign-map, instantiate-agree, headFacts-agree}
-use Rattle.demand.proofs.Maps.{mapFact, Commutes, map-assign, map-instantiate, mem-map-headFacts}
+use Rattle.demand.proofs.Maps.{mapFact, Commutes, map-assign, map-instantiate, map-headFacts, mem-map-headFacts}
 use Rattle.demand.proofs.Skolem.{disjunctsOf, owner-unique}
-use Rattle.demand.proofs.Loaded.{inBody-universal, loaded-terms, Satisfied, mem-satisfied}
+use Rattle.demand.proofs.Loaded.{entry-well-formed, inBody-universal, loaded-terms, Satisfied, mem-satisfied}
 use Rattle.demand.proofs.Subterms.{subtermsOf, termsOf-subtermsOf, subtermsOf-argument}
 use Rattle.demand.proofs.Origins.{Origin, Explained}
 use Rattle.demand.proofs.Closure.{closed-map}
@@ -217,3 +217,57 @@ module _ {b : RuleSet} {fs : List Fact} (x : Explained b fs) (σ : ℕ → Term)
         ⊎-elim (λ (k : List·Memᴰ g (made t (disjunctsOf (entries b)))). made-restored t (first t ts h) k)
         (λ (k : List·Memᴰ g (madeAll ts (disjunctsOf (entries b)))). madeAll-restored ts (rest t ts h) k)
         (List·Memᴰ·append-cases (made t (disjunctsOf (entries b))) m)
+
+module _ {b : RuleSet} (w : WellFormed b) {fs : List Fact} (x : Explained b fs) {r : Rule} (g : WellFormedRule (b .arities) r) (σ : ℕ → Term) (l : Loaded r fs σ) where
+  abbrev apartTerms : List Term
+  apartTerms = renamed (universal r) (map σ (universal r))
+
+  restored-agree : Agree r (λ (v : ℕ). restored x σ (assign (universal r) apartTerms v)) σ
+  restored-agree v e = back-assign (binding x) σ (inBody-universal g e)
+
+  body-facts-restored : {f : Fact} → List·Memᴰ f (map (instantiate (assign (universal r) apartTerms)) (r .body)) → List·Memᴰ (mapFact (restored x σ) f) fs
+  body-facts-restored m =
+      let (a, i, e) = map-mem (instantiate (assign (universal r) apartTerms)) (r .body) m in
+      Memᴰ·cast
+      (ap (mapFact (restored x σ)) e ∙ map-instantiate (restored x σ) (commutes x σ) (assign (universal r) apartTerms) a
+      ∙ instantiate-agree (λ (v : ℕ). restored x σ (assign (universal r) apartTerms v)) σ a (λ v k. restored-agree v (mem-inBody r (mem-variablesOf i k))))
+      (l a i)
+
+  -- each term of the trigger, renamed apart and taken back, is an argument of a fact
+  apartTerms-restored : {t : Term} → List·Memᴰ t apartTerms → List·Memᴰ (restored x σ t) (subtermsOf fs)
+  apartTerms-restored m =
+      let (v, i, e) = map-mem (λ (v : ℕ). rename (σ v) (root v)) (universal r) (rw (renamed-map (binding x) σ (universal r)) at m) in
+      Memᴰ·cast (ap (restored x σ) e ∙ back-root (binding x) σ v) (termsOf-subtermsOf fs (loaded-terms r fs σ l (universal-mem r i)))
+
+  testBase-restored : (f : Fact) → List·Memᴰ f (testBase (entries b) r apartTerms) → List·Memᴰ (mapFact (restored x σ) f) fs
+  unfolding testBase
+  testBase-restored f m = start (extend-mem sameFact [] (map (instantiate (assign (universal r) apartTerms)) (r .body) ++ collect (λ (t : Term). made t (disjunctsOf (entries b))) apartTerms) m)
+    where
+      body-or-made : List·Memᴰ f (map (instantiate (assign (universal r) apartTerms)) (r .body)) ⊎ List·Memᴰ f (collect (λ (t : Term). made t (disjunctsOf (entries b))) apartTerms)
+          → List·Memᴰ (mapFact (restored x σ) f) fs
+      body-or-made (inl k) = body-facts-restored k
+      body-or-made (inr k) =
+          let (t, i, j) = collect-mem (λ (t : Term). made t (disjunctsOf (entries b))) apartTerms k in
+          made-restored x σ t (apartTerms-restored i) j
+
+      start : List·Memᴰ f [] ⊎ List·Memᴰ f (map (instantiate (assign (universal r) apartTerms)) (r .body) ++ collect (λ (t : Term). made t (disjunctsOf (entries b))) apartTerms)
+          → List·Memᴰ (mapFact (restored x σ) f) fs
+      start (inl k) = absurd (List·Memᴰ·not-nil k)
+      start (inr k) = body-or-made (List·Memᴰ·append-cases (map (instantiate (assign (universal r) apartTerms)) (r .body)) k)
+
+-- 004, Theorem 49: over a set on which no Datalog rule fits, a blocked trigger has a satisfied disjunct
+pub blocked-satisfied : {b : RuleSet} → WellFormed b → {fs : List Fact} → Explained b fs → datalogDone (entries b) fs ≡ true → {e : Entry}
+    → List·Memᴰ e (entries b) → (σ : ℕ → Term) → Loaded (e .rule) fs σ → Blocked b e (map σ (universal (e .rule)))
+    → satisfied fs σ (e .disjuncts) ≡ true
+blocked-satisfied {b} w {fs} x done {e} m σ l blocked =
+    let (n, d, i, h) = blocked in
+    let g = entry-well-formed w m in
+    let ρ : Term → Term = restored x σ in
+    let c : Commutes ρ = commutes x σ in
+    let u : ℕ → Term = assign (universal (e .rule)) (renamed (universal (e .rule)) (map σ (universal (e .rule)))) in
+    let agree : Agree (d .rule) (λ (v : ℕ). ρ (u v)) σ =
+    λ v k. restored-agree w x g σ l v (subst (λ (r : Rule). inBody r v ≡ true) (entries-mem b m .disjuncts d i .0) k) in
+    let image : map (mapFact ρ) (headFacts u d) ≡ headFacts σ d = map-headFacts ρ c u d ∙ headFacts-agree d (λ (v : ℕ). ρ (u v)) σ agree in
+    mem-satisfied σ i (λ f k.
+    let (q, j, p) = map-mem (mapFact ρ) (headFacts u d) (subst (λ (fs : List Fact). List·Memᴰ f fs) (sym image) k) in
+    Memᴰ·cast p (closed-map w fs done ρ c (testBase-restored w x g σ l) (h q j)))
