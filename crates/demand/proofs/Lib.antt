@@ -6,3 +6,4 @@ pub mod Subterms
 pub mod Origins
 pub mod Closure
 pub mod TestSet
+pub mod Covered

@@ -18,10 +18,8 @@ use Rattle.laws.proofs.Lists.{any-mem, mem-any, all-mem, mem-all, mem-map, map-
 use Rattle.laws.proofs.Terms.{same-decides}
 use Rattle.laws.proofs.Facts.{present-mem, mem-present, mem-termsOf}
 use Rattle.laws.proofs.Rules.{inBody-mem, mem-inBody, variablesOf-mem, mem-variablesOf, universal-mem, mem-universal, entries-mem, Entered}
+use Rattle.published_laws.proofs.Invention.{entry-well-formed}
 use Rattle.laws.proofs.Triggers.{Agree, Loaded, Assignment, assign-map, instantiate-agree, headFacts-agree, triggers-mem, mem-triggers}
-
-pub entry-well-formed : {b : RuleSet} → WellFormed b → {e : Entry} → List·Memᴰ e (entries b) → WellFormedRule (b .arities) (e .rule)
-entry-well-formed {b} w {e} m = w .rules (e .rule) (entries-mem b m .rule)
 
 pub inBody-universal : {arities : List ℕ} {r : Rule} → WellFormedRule arities r → {v : ℕ} → inBody r v ≡ true → List·Memᴰ v (universal r)
 inBody-universal {r = r} w {v} e =

@@ -19,7 +19,8 @@ use Rattle.laws.proofs.Facts.{sameFact-decides, mem-termsOf, termsOf-mem}
 use Rattle.laws.proofs.Rules.{universal-mem, frontier-mem, mem-existential, mem-variablesOf, entries-mem}
 use Rattle.laws.proofs.Triggers.{Loaded, headTerm-universal, headTerm-existential, headFacts-mem}
 use Rattle.demand.proofs.Skolem.{disjunctsOf, owns-existential}
-use Rattle.demand.proofs.Loaded.{entry-well-formed, loaded-terms, Satisfied}
+use Rattle.published_laws.proofs.Invention.{entry-well-formed}
+use Rattle.demand.proofs.Loaded.{loaded-terms, Satisfied}
 use Rattle.demand.proofs.Subterms.{subtermsOf, subterms, subtermsAll, subterms-self, skolem-function, skolem-arguments, subterms-skolem, subterms-constant, subtermsAll-terms, mem-subtermsOf, subtermsOf-mem, termsOf-subtermsOf}
 
 -- the step that made skolem f ts

@@ -24,7 +24,8 @@ use Rattle.laws.proofs.Rules.{mem-inBody, mem-variablesOf, universal-mem, entri
 use Rattle.laws.proofs.Triggers.{Loaded, Agree, assign-map, instantiate-agree, headFacts-agree}
 use Rattle.demand.proofs.Maps.{mapFact, Commutes, map-assign, map-instantiate, map-headFacts, mem-map-headFacts}
 use Rattle.demand.proofs.Skolem.{disjunctsOf, owner-unique}
-use Rattle.demand.proofs.Loaded.{entry-well-formed, inBody-universal, loaded-terms, Satisfied, mem-satisfied}
+use Rattle.published_laws.proofs.Invention.{entry-well-formed}
+use Rattle.demand.proofs.Loaded.{inBody-universal, loaded-terms, Satisfied, mem-satisfied}
 use Rattle.demand.proofs.Subterms.{subtermsOf, termsOf-subtermsOf, subtermsOf-argument}
 use Rattle.demand.proofs.Origins.{Origin, Explained}
 use Rattle.demand.proofs.Closure.{closed-map}

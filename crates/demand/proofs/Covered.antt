@@ -1,0 +1,76 @@
+-- Every fact of a filled set, with ⋆ for each constant, is in a list that has the critical instance and the outputs of its triggers that are not
+-- blocked (004, Lemma 51): each step's image is the output of such a trigger. Assumes nothing.
+use mathlib.Core.Path.{_≡_, refl, sym, ap, ap₂, _∙_, subst}
+use mathlib.Core.Bool.{Bool, true, false, _||_}
+use mathlib.Core.Logic.{_⊎_, inl, inr, ⊎-elim}
+use mathlib.Core.List.{List, [], _∷_, map, List·Memᴰ, List·Memᴰ·not-nil, Memᴰ·cast}
+use Prim.Native.Nat.{ℕ, suc, _<_}
+use lib.ListN.{length, getD, replicate, length-map}
+use Rattle.model.specs.Lists.{any, extend}
+use Rattle.model.specs.Term.{Term, star, constant, starred, cyclic}
+use Rattle.model.specs.Rules.{Atom, Rule, RuleSet, Disjunct, Entry, entries, inBody, universal, datalog}
+use Rattle.model.specs.WellFormed.{WellFormed}
+use Rattle.model.specs.Triggers.{Fact, sameFact, assign, instantiate, headFacts, output}
+use Rattle.model.specs.Blocking.{blocked}
+use Rattle.model.specs.Stages.{critical}
+use Rattle.model.specs.Published.{Substitution, Blocked}
+use Rattle.model.specs.Chase.{Attempt, State, satisfied, fits, datalogDone, applicable, attempt, chase, initial}
+use Rattle.model.specs.Demand.{starredFact, Constants, none, more, Over}
+use Rattle.laws.proofs.Bools.{not-both, and-true, or-true, is-false}
+use Rattle.laws.proofs.Lists.{mem-collect, extend-mem}
+use Rattle.laws.proofs.Facts.{fact-path}
+use Rattle.laws.proofs.Rules.{entries-mem}
+use Rattle.laws.proofs.Triggers.{Loaded, Agree, headFacts-agree, mem-output}
+use Rattle.published_laws.proofs.Blocked.{blocked-sound}
+use Rattle.published_laws.proofs.Invention.{entry-well-formed}
+use Rattle.chase_laws.proofs.Attempts.{Applies, given, stepped, attempt-steps, attempt-cases, applies-entry, applies-disjunct, applies-loaded, applies-unsatisfied}
+use Rattle.demand.proofs.Maps.{mapFact, map-map, map-instantiate, mem-map-headFacts}
+use Rattle.demand.proofs.Starred.{starred-commutes, starredFact-map, any-cyclic-starred, blocked-starred}
+use Rattle.demand.proofs.Skolem.{disjunctsOf}
+use Rattle.demand.proofs.Loaded.{assign-agree, loaded-agree}
+use Rattle.demand.proofs.Origins.{Explained, explained-start, explained-step}
+use Rattle.demand.proofs.TestSet.{blocked-satisfied}
+
+-- a list that no stage adds to
+pub record Saturated (b : RuleSet) (listed : List Fact) : Type 0 where
+  pub critical : (f : Fact) → List·Memᴰ f (critical 0 (b .arities)) → List·Memᴰ f listed
+  pub outputs : (e : Entry) (m : List Term) → List·Memᴰ e (entries b) → Substitution (e .rule) m → Loaded (e .rule) listed (assign (universal (e .rule)) m)
+      → blocked (entries b) e m ≡ false → (f : Fact) → List·Memᴰ f (output (assign (universal (e .rule)) m) (e .disjuncts)) → List·Memᴰ f listed
+  pub acyclic : (f : Fact) → List·Memᴰ f listed → any cyclic (f .arguments) ≡ false
+
+-- what holds of every set that a filling reaches
+pub record Followed (b : RuleSet) (listed : List Fact) (fs : List Fact) : Type 0 where
+  pub explained : Explained b fs
+  pub covered : (f : Fact) → List·Memᴰ f fs → List·Memᴰ (starredFact f) listed
+
+-- 004, Theorem 49: a step's trigger is not blocked
+pub step-free : {b : RuleSet} → WellFormed b → {a : Attempt} {s : State} {e : Entry} {d : Disjunct} → Applies b a s e d → Explained b (s .facts)
+    → blocked (entries b) e (map (given a) (universal (e .rule))) ≡ false
+unfolding applicable
+step-free {b} w {a} {s} {e} h x = is-false (blocked (entries b) e (map (given a) (universal (e .rule)))) (λ k. stuck (blocked-sound b e (map (given a) (universal (e .rule))) k))
+  where
+    stuck : Blocked b e (map (given a) (universal (e .rule))) → ⊥
+    stuck k =
+        ⊎-elim (λ (i : datalog (e .rule) ≡ true). not-both (datalog (e .rule)) i (k .0))
+        (λ (i : datalogDone (entries b) (s .facts) ≡ true).
+        not-both (satisfied (s .facts) (given a) (e .disjuncts)) (blocked-satisfied w x i (applies-entry h) (given a) (applies-loaded h) k) (applies-unsatisfied h))
+        (or-true (datalog (e .rule)) (datalogDone (entries b) (s .facts))
+        (and-true (fits (s .facts) e (given a)) (datalog (e .rule) || datalogDone (entries b) (s .facts)) (h .trigger) .1))
+
+-- the facts of a trigger that is loaded and not blocked, with ⋆ for each constant, are listed
+pub output-covered : {b : RuleSet} → WellFormed b → {listed : List Fact} → Saturated b listed → {fs : List Fact}
+    → ((f : Fact) → List·Memᴰ f fs → List·Memᴰ (starredFact f) listed) → {e : Entry} → List·Memᴰ e (entries b) → (σ : ℕ → Term) → Loaded (e .rule) fs σ
+    → blocked (entries b) e (map σ (universal (e .rule))) ≡ false → {d : Disjunct} → List·Memᴰ d (e .disjuncts) → {f : Fact} → List·Memᴰ f (headFacts σ d)
+    → List·Memᴰ (starredFact f) listed
+output-covered {b} w {listed} s {fs} c {e} m σ l free {d} i {f} k =
+    let r : Rule = e .rule in
+    let g = entry-well-formed w m in
+    let τ : ℕ → Term = λ v. starred (σ v) in
+    let ρ : ℕ → Term = assign (universal r) (map τ (universal r)) in
+    let image : Loaded r listed τ = λ a n. Memᴰ·cast (sym (starredFact-map (instantiate σ a) ∙ map-instantiate starred starred-commutes σ a)) (c (instantiate σ a) (l a n)) in
+    let agree : Agree (d .rule) τ ρ =
+    λ v n. sym (assign-agree g τ v (subst (λ (x : Rule). inBody x v ≡ true) (entries-mem b m .disjuncts d i .0) n)) in
+    s .outputs e (map τ (universal r)) m (length-map (universal r) τ) (loaded-agree r listed {σ = τ} {τ = ρ} (λ v n. sym (assign-agree g τ v n)) image)
+    (ap (blocked (entries b) e) (sym (map-map starred σ (universal r))) ∙ blocked-starred (entries b) e (map σ (universal r)) ∙ free)
+    (starredFact f)
+    (mem-output ρ i (Memᴰ·cast (starredFact-map f) (rw (headFacts-agree d τ ρ agree) at (mem-map-headFacts starred starred-commutes σ d k))))
