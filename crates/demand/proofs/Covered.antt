@@ -5,6 +5,7 @@ use mathlib.Core.Bool.{Bool, true, false, _||_}
 use mathlib.Core.Logic.{_⊎_, inl, inr, ⊎-elim}
 use mathlib.Core.List.{List, [], _∷_, map, List·Memᴰ, List·Memᴰ·not-nil, Memᴰ·cast}
 use Prim.Native.Nat.{ℕ, suc, _<_}
+use native.Mathlib.Nat.{zero-add}
 use lib.ListN.{length, getD, replicate, length-map}
 use Rattle.model.specs.Lists.{any, extend}
 use Rattle.model.specs.Term.{Term, star, constant, starred, cyclic}
@@ -21,6 +22,7 @@ use Rattle.laws.proofs.Lists.{mem-collect, extend-mem}
 use Rattle.laws.proofs.Facts.{fact-path}
 use Rattle.laws.proofs.Rules.{entries-mem}
 use Rattle.laws.proofs.Triggers.{Loaded, Agree, headFacts-agree, mem-output}
+use Rattle.stage_laws.proofs.Arities.{mem-critical}
 use Rattle.published_laws.proofs.Blocked.{blocked-sound}
 use Rattle.published_laws.proofs.Invention.{entry-well-formed}
 use Rattle.chase_laws.proofs.Attempts.{Applies, given, stepped, attempt-steps, attempt-cases, applies-entry, applies-disjunct, applies-loaded, applies-unsatisfied}
@@ -74,3 +76,69 @@ output-covered {b} w {listed} s {fs} c {e} m σ l free {d} i {f} k =
     (ap (blocked (entries b) e) (sym (map-map starred σ (universal r))) ∙ blocked-starred (entries b) e (map σ (universal r)) ∙ free)
     (starredFact f)
     (mem-output ρ i (Memᴰ·cast (starredFact-map f) (rw (headFacts-agree d τ ρ agree) at (mem-map-headFacts starred starred-commutes σ d k))))
+
+-- the start
+
+starred-constants : {ts : List Term} → Constants ts → map starred ts ≡ replicate (length ts) star
+unfolding starred
+starred-constants none = refl
+starred-constants (more c) = ap (λ (ts : List Term). star ∷ ts) (starred-constants c)
+
+instance-critical : (b : RuleSet) (f : Fact) → Over b f → List·Memᴰ (starredFact f) (critical 0 (b .arities))
+unfolding starredFact
+instance-critical b f o =
+    Memᴰ·cast
+    (fact-path (sym (zero-add (f .predicate))) (starred-constants (o .constant) ∙ ap (λ (n : ℕ). replicate n star) (o .arity)))
+    (mem-critical 0 (b .arities) (f .predicate) (o .declared))
+
+initial-mem : (fs : List Fact) {f : Fact} → List·Memᴰ f (initial fs .facts) → List·Memᴰ f fs
+unfolding initial
+initial-mem fs {f} m = ⊎-elim (λ (k : List·Memᴰ f []). absurd (List·Memᴰ·not-nil k)) (λ (k : List·Memᴰ f fs). k) (extend-mem sameFact [] fs m)
+
+pub initial-followed : {b : RuleSet} {listed : List Fact} → Saturated b listed → (instance' : List Fact) → ((f : Fact) → List·Memᴰ f instance' → Over b f)
+    → Followed b listed (initial instance' .facts)
+initial-followed {b} s instance' over =
+    record {
+      explained = explained-start b (initial instance' .facts) (λ f m. over f (initial-mem instance' m) .constant);
+      covered = λ f m. s .critical (starredFact f) (instance-critical b f (over f (initial-mem instance' m)));
+    }
+
+-- one attempt, and all
+
+step-followed : {b : RuleSet} → WellFormed b → {listed : List Fact} → Saturated b listed → {a : Attempt} {s : State} {e : Entry} {d : Disjunct}
+    → Applies b a s e d → Followed b listed (s .facts) → Followed b listed (extend sameFact (s .facts) (headFacts (given a) d))
+step-followed {b} w {listed} z {a} {s} {e} {d} h x =
+    record {
+      explained =
+          explained-step w (x .explained) (mem-collect (λ (e : Entry). e .disjuncts) (applies-entry h) (applies-disjunct h)) (given a)
+          (subst (λ (r : Rule). Loaded r (s .facts) (given a)) (sym (entries-mem b (applies-entry h) .disjuncts d (applies-disjunct h) .0)) (applies-loaded h));
+      covered = λ f m.
+          ⊎-elim (λ (k : List·Memᴰ f (s .facts)). x .covered f k)
+          (λ (k : List·Memᴰ f (headFacts (given a) d)).
+          output-covered w z (x .covered) (applies-entry h) (given a) (applies-loaded h) (step-free w h (x .explained)) (applies-disjunct h) k)
+          (extend-mem sameFact (s .facts) (headFacts (given a) d) m);
+    }
+
+pub attempt-followed : {b : RuleSet} → WellFormed b → {listed : List Fact} → Saturated b listed → (a : Attempt) (s : State) → Followed b listed (s .facts)
+    → Followed b listed (attempt b a s .facts)
+unfolding stepped
+attempt-followed {b} w {listed} z a s x = go (attempt-cases b a s)
+  where
+    go : ((e : Entry) × (d : Disjunct) × Applies b a s e d) ⊎ (attempt b a s ≡ s) → Followed b listed (attempt b a s .facts)
+    go (inl (e, d, h)) = subst (λ (t : State). Followed b listed (t .facts)) (sym (attempt-steps b a s h)) (step-followed w z h x)
+    go (inr k) = subst (λ (t : State). Followed b listed (t .facts)) (sym k) x
+
+pub chase-followed : {b : RuleSet} → WellFormed b → {listed : List Fact} → Saturated b listed → (as' : List Attempt) (s : State) → Followed b listed (s .facts)
+    → Followed b listed (chase b as' s .facts)
+unfolding chase
+chase-followed w z [] s x = x
+chase-followed {b} w z (a ∷ as') s x = chase-followed w z as' (attempt b a s) (attempt-followed w z a s x)
+
+-- every filling from an instance: its facts are covered, and so none has a cyclic term
+pub chase-covered : {b : RuleSet} → WellFormed b → {listed : List Fact} → Saturated b listed → (instance' : List Fact)
+    → ((f : Fact) → List·Memᴰ f instance' → Over b f) → (attempts : List Attempt) (f : Fact) → List·Memᴰ f (chase b attempts (initial instance') .facts)
+    → List·Memᴰ (starredFact f) listed × (any cyclic (f .arguments) ≡ false)
+unfolding starredFact
+chase-covered {b} w z instance' over attempts f m =
+    let c = chase-followed w z attempts (initial instance') (initial-followed z instance' over) .covered f m in
+    (c, sym (any-cyclic-starred (f .arguments)) ∙ z .acyclic (starredFact f) c)
