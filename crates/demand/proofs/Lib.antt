@@ -7,3 +7,4 @@ pub mod Origins
 pub mod Closure
 pub mod TestSet
 pub mod Covered
+pub mod Demand3

@@ -1,0 +1,55 @@
+-- Demand 3 over the definitions: the facts of the stage that the verdict accepts bound every filling. Assumes nothing.
+use mathlib.Core.Path.{_≡_}
+use mathlib.Core.List.{List, map, List·Memᴰ}
+use Prim.Native.Nat.{ℕ, zero, suc, _≤_}
+use native.Mathlib.Omega.{arith}
+use Rattle.model.specs.Lists.{any}
+use Rattle.model.specs.Term.{Term, cyclic}
+use Rattle.model.specs.Rules.{RuleSet, Entry, entries, universal}
+use Rattle.model.specs.WellFormed.{WellFormed}
+use Rattle.model.specs.Triggers.{Fact, assign, termsOf}
+use Rattle.model.specs.Stages.{stage, triggersIn, verdict, accepted}
+use Rattle.model.specs.Published.{Substitution}
+use Rattle.model.specs.Chase.{Attempt, chase, initial}
+use Rattle.model.specs.Demand.{Over, Bounded, Demand3}
+use Rattle.laws.proofs.Lists.{false-any}
+use Rattle.laws.proofs.Facts.{termsOf-mem}
+use Rattle.laws.proofs.Triggers.{Loaded}
+use Rattle.stage_laws.proofs.Lists.{prefix-mem}
+use Rattle.stage_laws.proofs.Outputs.{Fires, mem-outputs}
+use Rattle.stage_laws.proofs.Growth.{stage-zero-facts, facts-grow, arguments-in-terms, outputs-in}
+use Rattle.stage_laws.proofs.Verdict.{Accepted, accepted-says}
+use Rattle.published_laws.proofs.Closure.{loaded-trigger}
+use Rattle.published_laws.proofs.Dmfa.{stage-acyclic}
+use Rattle.chase_laws.proofs.Steps.{steps-bounded}
+use Rattle.demand.proofs.Covered.{Saturated, chase-covered}
+
+mem-triggersIn : (b : RuleSet) (n : ℕ) (e : Entry) (m : List Term) → Substitution (e .rule) m
+    → Loaded (e .rule) (stage b n .facts) (assign (universal (e .rule)) m) → List·Memᴰ m (triggersIn (stage b n) e)
+unfolding triggersIn
+mem-triggersIn b n e m s l =
+    loaded-trigger (e .rule) (stage b n .terms) (stage b n .facts) m s l
+    (λ t k. let (f, i, j) = termsOf-mem (stage b n .facts) k in arguments-in-terms b n i j)
+
+pub accepted-saturated : {b : RuleSet} {n f t : ℕ} → Accepted b n f t → Saturated b (stage b n .facts)
+accepted-saturated {b} {n} a =
+    record {
+      critical = λ g m. prefix-mem (facts-grow b 0 n (omega arith)) (rw (stage-zero-facts b) m);
+      outputs = λ e m i s l free g k.
+          outputs-in b n (a .still) g
+          (mem-outputs (entries b) (stage b n) (record { entry = e; terms = m; known = i; trigger = mem-triggersIn b n e m s l; free = free; fact = k }));
+      acyclic = λ g m. false-any cyclic (g .arguments) (λ u k. stage-acyclic b n (λ j h. a .reached .passed j h .acyclic) g m u k);
+    }
+
+-- every list that no stage adds to bounds every filling
+pub saturated-bounds : {b : RuleSet} → WellFormed b → {listed : List Fact} → Saturated b listed → Demand3 b listed
+saturated-bounds {b} w {listed} z instance' over attempts =
+    let c = chase-covered w z instance' over attempts in
+    record {
+      acyclic = λ f m. c f m .1;
+      covered = λ f m. c f m .0;
+      steps = steps-bounded b listed instance' over attempts (λ f m. c f m .0);
+    }
+
+pub demand-3 : {b : RuleSet} → WellFormed b → {n f t : ℕ} → verdict b ≡ accepted n f t → Demand3 b (stage b n .facts)
+demand-3 {b} w h = saturated-bounds w (accepted-saturated (accepted-says b w h))
