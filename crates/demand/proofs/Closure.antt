@@ -1,10 +1,10 @@
 -- A map that commutes with Skolem functions and takes a base into a set on which no Datalog rule fits takes the closure of the base into it
 -- (004, Lemma 23). Assumes nothing.
 use mathlib.Core.Path.{_≡_, refl, sym, ap, _∙_, subst}
-use mathlib.Core.Bool.{Bool, true, false, _&&_}
+use mathlib.Core.Bool.{true}
 use mathlib.Core.Logic.{_⊎_, inl, inr}
-use mathlib.Core.List.{List, [], _∷_, map, List·Memᴰ, List·Memᴰ·head, List·Memᴰ·tail, List·Memᴰ·not-nil, List·Memᴰ·cases-cons, List·Memᴰ·eq-of-singleton, Memᴰ·cast}
-use Prim.Native.Nat.{ℕ, zero, suc, _+_}
+use mathlib.Core.List.{List, [], _∷_, List·Memᴰ, List·Memᴰ·not-nil, List·Memᴰ·cases-cons, List·Memᴰ·eq-of-singleton, Memᴰ·cast}
+use Prim.Native.Nat.{ℕ, suc, _+_}
 use native.Mathlib.Omega.{arith}
 use lib.Dec.{eqb}
 use lib.ListN.{length}
@@ -13,9 +13,9 @@ use Rattle.model.specs.Lists.{all}
 use Rattle.model.specs.Term.{Term}
 use Rattle.model.specs.Rules.{Atom, Rule, RuleSet, Disjunct, Entry, existential, existentialFree, disjunctsFrom, countSkolem, entriesFrom, entries, universal, datalog}
 use Rattle.model.specs.WellFormed.{WellFormed}
-use Rattle.model.specs.Triggers.{Fact, assign, instantiate, headFacts}
+use Rattle.model.specs.Triggers.{Fact, assign, headFacts}
 use Rattle.model.specs.Published.{Closed, given, derived}
-use Rattle.model.specs.Chase.{satisfied, datalogDone}
+use Rattle.model.specs.Chase.{datalogDone}
 use Rattle.laws.proofs.Bools.{and-true}
 use Rattle.laws.proofs.Triggers.{Loaded, output-mem}
 use Rattle.demand.proofs.Maps.{mapFact, Commutes, map-instantiate, mem-map-headFacts}

@@ -1,15 +1,15 @@
 -- Every fact of a filled set, with ⋆ for each constant, is in a list that has the critical instance and the outputs of its triggers that are not
 -- blocked (004, Lemma 51): each step's image is the output of such a trigger. Assumes nothing.
-use mathlib.Core.Path.{_≡_, refl, sym, ap, ap₂, _∙_, subst}
-use mathlib.Core.Bool.{Bool, true, false, _||_}
+use mathlib.Core.Path.{_≡_, refl, sym, ap, _∙_, subst}
+use mathlib.Core.Bool.{true, false, _||_}
 use mathlib.Core.Logic.{_⊎_, inl, inr, ⊎-elim}
 use mathlib.Core.List.{List, [], _∷_, map, List·Memᴰ, List·Memᴰ·not-nil, Memᴰ·cast}
-use Prim.Native.Nat.{ℕ, suc, _<_}
+use Prim.Native.Nat.{ℕ}
 use native.Mathlib.Nat.{zero-add}
-use lib.ListN.{length, getD, replicate, length-map}
+use lib.ListN.{length, replicate, length-map}
 use Rattle.model.specs.Lists.{any, extend}
 use Rattle.model.specs.Term.{Term, star, constant, starred, cyclic}
-use Rattle.model.specs.Rules.{Atom, Rule, RuleSet, Disjunct, Entry, entries, inBody, universal, datalog}
+use Rattle.model.specs.Rules.{Rule, RuleSet, Disjunct, Entry, entries, inBody, universal, datalog}
 use Rattle.model.specs.WellFormed.{WellFormed}
 use Rattle.model.specs.Triggers.{Fact, sameFact, assign, instantiate, headFacts, output}
 use Rattle.model.specs.Blocking.{blocked}
@@ -26,9 +26,8 @@ use Rattle.stage_laws.proofs.Arities.{mem-critical}
 use Rattle.published_laws.proofs.Blocked.{blocked-sound}
 use Rattle.published_laws.proofs.Invention.{entry-well-formed}
 use Rattle.chase_laws.proofs.Attempts.{Applies, given, stepped, attempt-steps, attempt-cases, applies-entry, applies-disjunct, applies-loaded, applies-unsatisfied}
-use Rattle.demand.proofs.Maps.{mapFact, map-map, map-instantiate, mem-map-headFacts}
+use Rattle.demand.proofs.Maps.{map-map, map-instantiate, mem-map-headFacts}
 use Rattle.demand.proofs.Starred.{starred-commutes, starredFact-map, any-cyclic-starred, blocked-starred}
-use Rattle.demand.proofs.Skolem.{disjunctsOf}
 use Rattle.demand.proofs.Loaded.{assign-agree, loaded-agree}
 use Rattle.demand.proofs.Origins.{Explained, explained-start, explained-step}
 use Rattle.demand.proofs.TestSet.{blocked-satisfied}

@@ -1,22 +1,20 @@
 -- Demand 3 over the definitions: the facts of the stage that the verdict accepts bound every filling. Assumes nothing.
 use mathlib.Core.Path.{_≡_}
-use mathlib.Core.List.{List, map, List·Memᴰ}
-use Prim.Native.Nat.{ℕ, zero, suc, _≤_}
+use mathlib.Core.List.{List, List·Memᴰ}
+use Prim.Native.Nat.{ℕ}
 use native.Mathlib.Omega.{arith}
-use Rattle.model.specs.Lists.{any}
 use Rattle.model.specs.Term.{Term, cyclic}
 use Rattle.model.specs.Rules.{RuleSet, Entry, entries, universal}
 use Rattle.model.specs.WellFormed.{WellFormed}
-use Rattle.model.specs.Triggers.{Fact, assign, termsOf}
+use Rattle.model.specs.Triggers.{Fact, assign}
 use Rattle.model.specs.Stages.{stage, triggersIn, verdict, accepted}
 use Rattle.model.specs.Published.{Substitution}
-use Rattle.model.specs.Chase.{Attempt, chase, initial}
-use Rattle.model.specs.Demand.{Over, Bounded, Demand3}
+use Rattle.model.specs.Demand.{Demand3}
 use Rattle.laws.proofs.Lists.{false-any}
 use Rattle.laws.proofs.Facts.{termsOf-mem}
 use Rattle.laws.proofs.Triggers.{Loaded}
 use Rattle.stage_laws.proofs.Lists.{prefix-mem}
-use Rattle.stage_laws.proofs.Outputs.{Fires, mem-outputs}
+use Rattle.stage_laws.proofs.Outputs.{mem-outputs}
 use Rattle.stage_laws.proofs.Growth.{stage-zero-facts, facts-grow, arguments-in-terms, outputs-in}
 use Rattle.stage_laws.proofs.Verdict.{Accepted, accepted-says}
 use Rattle.published_laws.proofs.Closure.{loaded-trigger}

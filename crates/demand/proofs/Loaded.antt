@@ -1,19 +1,19 @@
 -- Loaded triggers, satisfied disjuncts and attempts that fit, by their elements; what the Datalog test of the chase decides: no possible
 -- attempt on a Datalog rule fits. Assumes nothing.
-use mathlib.Core.Path.{_≡_, refl, sym, ap, _∙_, subst}
-use mathlib.Core.Bool.{Bool, true, false, _&&_, _||_, not}
+use mathlib.Core.Path.{_≡_, sym, subst}
+use mathlib.Core.Bool.{Bool, true, false, _||_, not}
 use mathlib.Core.Logic.{_⊎_, inl, inr, _↔_}
-use mathlib.Core.List.{List, [], _∷_, map, List·Memᴰ, Memᴰ·cast}
-use Prim.Native.Nat.{ℕ, _≤_}
+use mathlib.Core.List.{List, [], map, List·Memᴰ, Memᴰ·cast}
+use Prim.Native.Nat.{ℕ}
 use borrow.Author.Tests.{not-true}
-use lib.ListN.{length, length-map}
-use Rattle.model.specs.Lists.{all, any, extend}
+use lib.ListN.{length-map}
+use Rattle.model.specs.Lists.{all, extend}
 use Rattle.model.specs.Term.{Term, same}
 use Rattle.model.specs.Rules.{Atom, Rule, RuleSet, Disjunct, Entry, entries, inBody, universal, datalog}
 use Rattle.model.specs.WellFormed.{WellFormed, WellFormedRule}
 use Rattle.model.specs.Triggers.{Fact, present, termsOf, assign, instantiate, triggers, headFacts}
 use Rattle.model.specs.Chase.{satisfied, fits, datalogDone}
-use Rattle.laws.proofs.Bools.{case, not-both, and-true, true-and, and-false, or-true, or-left, or-right, is-false}
+use Rattle.laws.proofs.Bools.{case, not-both, and-true, true-and, or-true, or-left, or-right, is-false}
 use Rattle.laws.proofs.Lists.{any-mem, mem-any, all-mem, mem-all, mem-map, map-mem, extend-right}
 use Rattle.laws.proofs.Terms.{same-decides}
 use Rattle.laws.proofs.Facts.{present-mem, mem-present, mem-termsOf}

@@ -1,27 +1,27 @@
 -- Every Skolem term in a filled set was made by a step whose body, frontier and disjunct are in the set (004, Proposition 41): the
 -- start has it, steps keep it. Assumes nothing.
-use mathlib.Core.Path.{_≡_, refl, sym, ap, _∙_, subst, subst₂}
-use mathlib.Core.Bool.{Bool, true, false}
+use mathlib.Core.Path.{_≡_, sym, subst, subst₂}
+use mathlib.Core.Bool.{true, false}
 use mathlib.Core.Logic.{_⊎_, inl, inr, ⊎-elim}
-use mathlib.Core.List.{List, [], _∷_, _++_, map, List·Memᴰ, List·Memᴰ·head, List·Memᴰ·tail, List·Memᴰ·not-nil, List·Memᴰ·cases-cons, Memᴰ·cast}
+use mathlib.Core.List.{List, map, List·Memᴰ, List·Memᴰ·not-nil, List·Memᴰ·cases-cons}
 use Prim.Native.Nat.{ℕ, suc, _+_, _≤_}
 use lib.Dec.{eqb}
-use Rattle.model.specs.Lists.{any, extend, index, collect}
-use Rattle.model.specs.Term.{Term, Terms, star, constant, apart, fresh, skolem, list, terms, same}
-use Rattle.model.specs.Rules.{Atom, Rule, RuleSet, Disjunct, Entry, entries, inBody, frontier, existential, owns}
+use Rattle.model.specs.Lists.{extend, index}
+use Rattle.model.specs.Term.{Term, Terms, constant, skolem, list, terms}
+use Rattle.model.specs.Rules.{Atom, RuleSet, Disjunct, Entry, entries, inBody, frontier, existential, owns}
 use Rattle.model.specs.WellFormed.{WellFormed}
-use Rattle.model.specs.Triggers.{Fact, sameFact, termsOf, instantiate, headTerm, headFacts}
+use Rattle.model.specs.Triggers.{Fact, sameFact, instantiate, headTerm, headFacts}
 use Rattle.model.specs.Demand.{Constants, none, more}
 use Rattle.laws.proofs.Bools.{case}
-use Rattle.laws.proofs.Lists.{collect-mem, map-mem, any-eq-mem, any-eq-not-mem, extend-left, extend-right, extend-mem}
-use Rattle.laws.proofs.Terms.{same-decides, list-terms}
+use Rattle.laws.proofs.Lists.{collect-mem, map-mem, extend-left, extend-right, extend-mem}
+use Rattle.laws.proofs.Terms.{list-terms}
 use Rattle.laws.proofs.Facts.{sameFact-decides, mem-termsOf, termsOf-mem}
 use Rattle.laws.proofs.Rules.{universal-mem, frontier-mem, mem-existential, mem-variablesOf, entries-mem}
 use Rattle.laws.proofs.Triggers.{Loaded, headTerm-universal, headTerm-existential, headFacts-mem}
 use Rattle.demand.proofs.Skolem.{disjunctsOf, owns-existential}
 use Rattle.published_laws.proofs.Invention.{entry-well-formed}
 use Rattle.demand.proofs.Loaded.{loaded-terms, Satisfied}
-use Rattle.demand.proofs.Subterms.{subtermsOf, subterms, subtermsAll, subterms-self, skolem-function, skolem-arguments, subterms-skolem, subterms-constant, subtermsAll-terms, mem-subtermsOf, subtermsOf-mem, termsOf-subtermsOf}
+use Rattle.demand.proofs.Subterms.{subtermsOf, subterms, subtermsAll, skolem-function, skolem-arguments, subterms-skolem, subterms-constant, subtermsAll-terms, mem-subtermsOf, subtermsOf-mem}
 
 -- the step that made skolem f ts
 pub record Origin (b : RuleSet) (fs : List Fact) (f : ℕ) (ts : Terms) : Type 0 where

@@ -1,9 +1,9 @@
 -- ⋆ for each constant is a map that commutes with Skolem functions; it keeps what is cyclic, and the blocking test does not see it
 -- (004, Lemma 46). Assumes nothing.
-use mathlib.Core.Path.{_≡_, refl, sym, ap, ap₂, _∙_}
+use mathlib.Core.Path.{_≡_, refl, ap, ap₂}
 use mathlib.Core.Bool.{Bool, true, false, _||_}
 use mathlib.Core.List.{List, [], _∷_, _++_, map}
-use Prim.Native.Nat.{ℕ, zero, suc}
+use Prim.Native.Nat.{ℕ, suc}
 use Rattle.model.specs.Lists.{all, any, member}
 use Rattle.model.specs.Term.{Position, child, root, Term, Terms, star, constant, apart, fresh, skolem, none, more, terms, functions, functionsAll, cyclic, cyclicAny, starred, starredAll}
 use Rattle.model.specs.Rules.{Disjunct, Entry, universal, datalog}

@@ -2,20 +2,20 @@
 -- the step that made its term bound (004, Propositions 41 and 48). So a blocked trigger has a satisfied disjunct (004, Theorem 49).
 -- Assumes nothing.
 use mathlib.Core.Path.{_≡_, refl, sym, ap, ap₂, _∙_, subst, subst₂}
-use mathlib.Core.Bool.{Bool, true, false}
+use mathlib.Core.Bool.{true, false}
 use mathlib.Core.Logic.{_⊎_, inl, inr, ⊎-elim}
 use mathlib.Core.List.{List, [], _∷_, _++_, map, List·Memᴰ, List·Memᴰ·head, List·Memᴰ·tail, List·Memᴰ·not-nil, List·Memᴰ·append-cases, Memᴰ·cast}
-use Prim.Native.Nat.{ℕ, zero, suc, _+_}
+use Prim.Native.Nat.{ℕ, suc, _+_}
 use native.Mathlib.Nat.{add-zero, zero-add}
 use native.Mathlib.Omega.{arith}
-use lib.ListN.{length, getD}
-use Rattle.model.specs.Lists.{any, collect, keep, member, extend}
+use lib.ListN.{getD}
+use Rattle.model.specs.Lists.{any, collect, keep, member}
 use Rattle.model.specs.Term.{Position, root, child, Term, Terms, star, constant, apart, fresh, skolem, none, more, list, terms, same}
-use Rattle.model.specs.Rules.{Atom, Rule, RuleSet, Disjunct, Entry, entries, inBody, universal, frontier, datalog, owns}
+use Rattle.model.specs.Rules.{Atom, Rule, RuleSet, Disjunct, Entry, entries, inBody, universal, frontier, owns}
 use Rattle.model.specs.WellFormed.{WellFormed, WellFormedRule}
 use Rattle.model.specs.Triggers.{Fact, sameFact, assign, instantiate, headFacts}
 use Rattle.model.specs.Blocking.{rename, renameAll, renamed, template, origin, made, madeAll, testBase}
-use Rattle.model.specs.Published.{Closed, Blocked}
+use Rattle.model.specs.Published.{Blocked}
 use Rattle.model.specs.Chase.{satisfied, datalogDone}
 use Rattle.laws.proofs.Bools.{case}
 use Rattle.laws.proofs.Lists.{any-eq-mem, any-eq-not-mem, keep-mem, member-mem, collect-mem, map-mem, mem-map, extend-mem}
