@@ -1,7 +1,9 @@
 pub mod Maps
 pub mod Skolem
 pub mod Starred
+pub mod Disjuncts
 pub mod Loaded
+pub mod DatalogDone
 pub mod Subterms
 pub mod Origins
 pub mod Closure

@@ -1,30 +1,27 @@
--- Loaded triggers, satisfied disjuncts and attempts that fit, by their elements; what the Datalog test of the chase decides: no possible
--- attempt on a Datalog rule fits. Assumes nothing.
+-- Loaded triggers, satisfied disjuncts and attempts that fit, by their elements. Assumes nothing.
 use mathlib.Core.Path.{_≡_, sym, subst}
-use mathlib.Core.Bool.{Bool, true, false, _||_, not}
-use mathlib.Core.Logic.{_⊎_, inl, inr, _↔_}
-use mathlib.Core.List.{List, [], map, List·Memᴰ, Memᴰ·cast}
-use Prim.Native.Nat.{ℕ}
+use mathlib.Core.Bool.{true, false, not}
+use mathlib.Core.List.{List, map, List·Memᴰ, Memᴰ·cast}
+use Prim.Native.Nat.{ℕ, _≤_}
 use borrow.Author.Tests.{not-true}
-use lib.ListN.{length-map}
-use Rattle.model.specs.Lists.{all, extend}
-use Rattle.model.specs.Term.{Term, same}
-use Rattle.model.specs.Rules.{Atom, Rule, RuleSet, Disjunct, Entry, entries, inBody, universal, datalog}
-use Rattle.model.specs.WellFormed.{WellFormed, WellFormedRule}
-use Rattle.model.specs.Triggers.{Fact, present, termsOf, assign, instantiate, triggers, headFacts}
-use Rattle.model.specs.Chase.{satisfied, fits, datalogDone}
-use Rattle.laws.proofs.Bools.{case, not-both, and-true, true-and, or-true, or-left, or-right, is-false}
-use Rattle.laws.proofs.Lists.{any-mem, mem-any, all-mem, mem-all, mem-map, map-mem, extend-right}
-use Rattle.laws.proofs.Terms.{same-decides}
+use Rattle.model.specs.Lists.{all}
+use Rattle.model.specs.Term.{Term}
+use Rattle.model.specs.Rules.{Atom, Rule, Disjunct, Entry, inBody, universal}
+use Rattle.model.specs.WellFormed.{WellFormedRule}
+use Rattle.model.specs.Triggers.{Fact, present, termsOf, assign, instantiate, headFacts}
+use Rattle.model.specs.Chase.{satisfied, fits}
+use Rattle.laws.proofs.Bools.{not-both, and-true, true-and, is-false}
+use Rattle.laws.proofs.Lists.{any-mem, mem-any, all-mem, mem-all, mem-map}
 use Rattle.laws.proofs.Facts.{present-mem, mem-present, mem-termsOf}
-use Rattle.laws.proofs.Rules.{inBody-mem, mem-inBody, variablesOf-mem, mem-variablesOf, universal-mem, mem-universal, entries-mem, Entered}
-use Rattle.published_laws.proofs.Invention.{entry-well-formed}
-use Rattle.laws.proofs.Triggers.{Agree, Loaded, Assignment, assign-map, instantiate-agree, headFacts-agree, triggers-mem, mem-triggers}
+use Rattle.laws.proofs.Rules.{inBody-mem, mem-inBody, variablesOf-mem, mem-variablesOf, mem-universal, Entered}
+use Rattle.published_laws.proofs.Invention.{variable-range}
+use Rattle.laws.proofs.Triggers.{Agree, Loaded, assign-map, instantiate-agree, headFacts-agree}
+
+pub inBody-range : {arities : List ℕ} {r : Rule} → WellFormedRule arities r → {v : ℕ} → inBody r v ≡ true → v ≤ 7
+inBody-range {r = r} w {v} e = variable-range (w .body) (inBody-mem r v e)
 
 pub inBody-universal : {arities : List ℕ} {r : Rule} → WellFormedRule arities r → {v : ℕ} → inBody r v ≡ true → List·Memᴰ v (universal r)
-inBody-universal {r = r} w {v} e =
-    let (a, m, k) = variablesOf-mem (r .body) (inBody-mem r v e) in
-    mem-universal r (w .body .each a m .range v k) e
+inBody-universal {r = r} w e = mem-universal r (inBody-range w e) e
 
 -- the terms of a trigger say what its substitution does on the body
 pub assign-agree : {arities : List ℕ} {r : Rule} → WellFormedRule arities r → (σ : ℕ → Term) → Agree r (assign (universal r) (map σ (universal r))) σ
@@ -82,70 +79,10 @@ loaded-fits fs e σ l h =
     true-and (all (λ (a : Atom). present fs (instantiate σ a)) (e .rule .body)) (not (satisfied fs σ (e .disjuncts)))
     (mem-all (λ (a : Atom). present fs (instantiate σ a)) (e .rule .body) (λ a m. mem-present (l a m))) (rw h)
 
--- no possible attempt on a Datalog rule fits the set
-abbrev pub DatalogDone : List Entry → List Fact → Type 0
-DatalogDone es fs = (e : Entry) → List·Memᴰ e es → datalog (e .rule) ≡ true → (σ : ℕ → Term) → fits fs e σ ≡ false
-
-loaded-assignment : (r : Rule) (fs : List Fact) (σ : ℕ → Term) → Loaded r fs σ
-    → Assignment (universal r) (extend same [] (termsOf fs)) (map σ (universal r))
-loaded-assignment r fs σ l =
-    record {
-      total = length-map (universal r) σ;
-      terms = λ t m.
-          let (v, k, e) = map-mem σ (universal r) m in
-          extend-right same same-decides [] (Memᴰ·cast e (loaded-terms r fs σ l (universal-mem r k)));
-    }
-
--- what the test asks of one entry
-allSatisfied : List Fact → Entry → Bool
-allSatisfied fs e =
-    all (λ (m : List Term). satisfied fs (assign (universal (e .rule)) m) (e .disjuncts)) (triggers (e .rule) (extend same [] (termsOf fs)) fs)
-
-datalogDone-all : (es : List Entry) (fs : List Fact) → datalogDone es fs ≡ true → {e : Entry} → List·Memᴰ e es → datalog (e .rule) ≡ true
-    → allSatisfied fs e ≡ true
-unfolding datalogDone allSatisfied
-datalogDone-all es fs h {e} m g = go (or-true (not (datalog (e .rule))) (allSatisfied fs e) (all-mem (λ (e : Entry). not (datalog (e .rule)) || allSatisfied fs e) h m))
-  where
-    go : (not (datalog (e .rule)) ≡ true) ⊎ (allSatisfied fs e ≡ true) → allSatisfied fs e ≡ true
-    go (inl k) = not-both (datalog (e .rule)) g (not-true (datalog (e .rule)) k)
-    go (inr k) = k
-
-all-datalogDone : (es : List Entry) (fs : List Fact) → ((e : Entry) → List·Memᴰ e es → datalog (e .rule) ≡ true → allSatisfied fs e ≡ true)
-    → datalogDone es fs ≡ true
-unfolding datalogDone allSatisfied
-all-datalogDone es fs h = mem-all (λ (e : Entry). not (datalog (e .rule)) || allSatisfied fs e) es (λ e m. go e (λ g. h e m g) (case (datalog (e .rule))))
-  where
-    go : (e : Entry) → (datalog (e .rule) ≡ true → allSatisfied fs e ≡ true) → (datalog (e .rule) ≡ true) ⊎ (datalog (e .rule) ≡ false)
-        → not (datalog (e .rule)) || allSatisfied fs e ≡ true
-    go e k (inl g) = or-right (not (datalog (e .rule))) (allSatisfied fs e) (k g)
-    go e k (inr g) = or-left (not (datalog (e .rule))) (allSatisfied fs e) (rw g)
-
--- a loaded trigger of a Datalog rule is satisfied where the test says that none fits
-pub datalogDone-satisfied : {b : RuleSet} → WellFormed b → (fs : List Fact) → datalogDone (entries b) fs ≡ true → {e : Entry} → List·Memᴰ e (entries b)
-    → datalog (e .rule) ≡ true → (σ : ℕ → Term) → Loaded (e .rule) fs σ → satisfied fs σ (e .disjuncts) ≡ true
-unfolding allSatisfied
-datalogDone-satisfied {b} w fs h {e} m g σ l =
-    let f = entry-well-formed w m in
-    let r : Rule = e .rule in
-    let τ : ℕ → Term = assign (universal r) (map σ (universal r)) in
-    satisfied-agree (entries-mem b m) fs {σ = τ} {τ = σ} (assign-agree f σ)
-    (all-mem (λ (m : List Term). satisfied fs (assign (universal (e .rule)) m) (e .disjuncts)) (datalogDone-all (entries b) fs h m g)
-    (mem-triggers r (extend same [] (termsOf fs)) fs (map σ (universal r)) (loaded-assignment r fs σ l)
-    (loaded-agree r fs {σ = σ} {τ = τ} (λ v i. sym (assign-agree f σ v i)) l)))
-
-pub datalogDone-decides : {b : RuleSet} → WellFormed b → (fs : List Fact) → (datalogDone (entries b) fs ≡ true) ↔ DatalogDone (entries b) fs
-unfolding allSatisfied
-datalogDone-decides {b} w fs = (
-  λ h e m g σ.
-      is-false (fits fs e σ)
-      (λ k. not-both (satisfied fs σ (e .disjuncts)) (datalogDone-satisfied w fs h m g σ (fits-loaded fs e σ k)) (fits-unsatisfied fs e σ k)),
-  λ h. all-datalogDone (entries b) fs (λ e m g.
-      mem-all (λ (m : List Term). satisfied fs (assign (universal (e .rule)) m) (e .disjuncts)) (triggers (e .rule) (extend same [] (termsOf fs)) fs)
-      (λ t k. done e (assign (universal (e .rule)) t) (triggers-mem (e .rule) (extend same [] (termsOf fs)) fs k .1) (h e m g (assign (universal (e .rule)) t))
-      (case (satisfied fs (assign (universal (e .rule)) t) (e .disjuncts))))),
-)
-  where
-    done : (e : Entry) (σ : ℕ → Term) → Loaded (e .rule) fs σ → fits fs e σ ≡ false
-        → (satisfied fs σ (e .disjuncts) ≡ true) ⊎ (satisfied fs σ (e .disjuncts) ≡ false) → satisfied fs σ (e .disjuncts) ≡ true
-    done e σ l k (inl i) = i
-    done e σ l k (inr i) = not-both (fits fs e σ) (loaded-fits fs e σ l i) k
+pub fits-agree : {rs : List Rule} {e : Entry} → Entered rs e → (fs : List Fact) {σ τ : ℕ → Term} → Agree (e .rule) σ τ → fits fs e σ ≡ true
+    → fits fs e τ ≡ true
+fits-agree {e = e} n fs {σ} {τ} h k =
+    loaded-fits fs e τ (loaded-agree (e .rule) fs {σ = σ} {τ = τ} h (fits-loaded fs e σ k))
+    (is-false (satisfied fs τ (e .disjuncts))
+    (λ s.
+    not-both (satisfied fs σ (e .disjuncts)) (satisfied-agree n fs {σ = τ} {τ = σ} (λ v i. sym (h v i)) s) (fits-unsatisfied fs e σ k)))
