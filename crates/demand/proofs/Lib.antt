@@ -10,3 +10,4 @@ pub mod Closure
 pub mod TestSet
 pub mod Covered
 pub mod Demand3
+pub mod OfCheck
