@@ -1,0 +1,97 @@
+-- Laws of term rows: the arguments of a term one by one, and size and occurrence without their bounds. Assumes nothing.
+use mathlib.Core.Path.{_≡_, refl, sym, ap, _∙_}
+use mathlib.Core.Bool.{Bool, true, false, _||_}
+use mathlib.Core.List.{List, [], _∷_, List·Memᴰ, List·Memᴰ·head, List·Memᴰ·tail, List·Memᴰ·not-nil, List·Memᴰ·cases-cons}
+use mathlib.Core.Logic.{_⊎_, inl, inr, ⊎-elim}
+use Prim.Native.Nat.{ℕ, zero, suc, _+_, _-_, _*_, _≤_, _<_}
+use native.Mathlib.Nat.{add-zero, add-suc, suc-add}
+use native.Mathlib.Numerals.{add-one}
+use native.Mathlib.Omega.{arith}
+use lib.Dec.{eqb}
+use lib.ListN.{length, getD, drop}
+use lib.Seq.{drop-nil}
+use Rattle.model.specs.Lists.{any, numbersFrom}
+use Rattle.terms.specs.Terms.{functionOf, arityOf, argumentOf, argumentsOf, Ordered, total, sizeWithin, sizeAt, occursWithin, occursAt}
+
+-- n numbers from a place on, from the j-th of them on
+numbersFrom-drop : (xs : List ℕ) (at n j : ℕ) → j < n → drop j (numbersFrom xs at n) ≡ getD xs (at + j) 0 ∷ drop (suc j) (numbersFrom xs at n)
+unfolding numbersFrom
+numbersFrom-drop xs at zero j h = absurd (omega arith)
+numbersFrom-drop xs at (suc n) zero h = rw (add-zero at)
+numbersFrom-drop xs at (suc n) (suc j) h = numbersFrom-drop xs (suc at) n j (omega arith) ∙ ap (λ (k : ℕ). getD xs k 0 ∷ drop (suc j) (numbersFrom xs (suc at) n)) (suc-add at j ∙ sym (add-suc at j))
+
+numbersFrom-end : (xs : List ℕ) (at n j : ℕ) → n ≤ j → drop j (numbersFrom xs at n) ≡ []
+unfolding numbersFrom
+numbersFrom-end xs at zero j h = drop-nil j
+numbersFrom-end xs at (suc n) zero h = absurd (omega arith)
+numbersFrom-end xs at (suc n) (suc j) h = numbersFrom-end xs (suc at) n j (omega arith)
+
+numbersFrom-mem : (xs : List ℕ) (at n : ℕ) {a : ℕ} → List·Memᴰ a (numbersFrom xs at n) → (j : ℕ) × (j < n) × (a ≡ getD xs (at + j) 0)
+unfolding numbersFrom
+numbersFrom-mem xs at zero m = absurd (List·Memᴰ·not-nil m)
+numbersFrom-mem xs at (suc n) {a} m = go (λ k. numbersFrom-mem xs (suc at) n k) (List·Memᴰ·cases-cons m)
+  where
+    go : (List·Memᴰ a (numbersFrom xs (suc at) n) → (j : ℕ) × (j < n) × (a ≡ getD xs (suc at + j) 0)) → (a ≡ getD xs at 0) ⊎ List·Memᴰ a (numbersFrom xs (suc at) n)
+        → (j : ℕ) × (j < suc n) × (a ≡ getD xs (at + j) 0)
+    go below (inl e) = (0, omega arith, e ∙ ap (λ (k : ℕ). getD xs k 0) (sym (add-zero at)))
+    go below (inr k) = let (j, h, e) = below k in (suc j, omega arith, e ∙ ap (λ (k : ℕ). getD xs k 0) (suc-add at j ∙ sym (add-suc at j)))
+
+pub argumentsOf-more : (t : List ℕ) (i j : ℕ) → j < arityOf t i → drop j (argumentsOf t i) ≡ argumentOf t i j ∷ drop (j + 1) (argumentsOf t i)
+unfolding argumentsOf
+argumentsOf-more t i j h =
+    numbersFrom-drop t (i * 10 + 2) (arityOf t i) j h
+    ∙ ap (λ (k : ℕ). argumentOf t i j ∷ drop k (numbersFrom t (i * 10 + 2) (arityOf t i))) (sym (add-one j))
+
+pub argumentsOf-end : (t : List ℕ) (i j : ℕ) → arityOf t i ≤ j → drop j (argumentsOf t i) ≡ []
+unfolding argumentsOf
+argumentsOf-end t i j h = numbersFrom-end t (i * 10 + 2) (arityOf t i) j h
+
+pub argumentsOf-before : {n : ℕ} {t : List ℕ} → Ordered n t → (i a : ℕ) → i < n → List·Memᴰ a (argumentsOf t i) → a < i
+unfolding argumentsOf
+argumentsOf-before {n} {t} o i a h m = let (j, k, e) = numbersFrom-mem t (i * 10 + 2) (arityOf t i) m in let b = o .before i j h k in omega arith
+
+-- sums and searches over equal functions
+
+total-agree : (f g : ℕ → ℕ) (xs : List ℕ) → ((x : ℕ) → List·Memᴰ x xs → f x ≡ g x) → total f xs ≡ total g xs
+unfolding total
+total-agree f g [] h = refl
+total-agree f g (x ∷ xs) h = let p = h x (List·Memᴰ·head refl) in let q = total-agree f g xs (λ y m. h y (List·Memᴰ·tail m)) in λ i. p i + q i
+
+any-agree : (f g : ℕ → Bool) (xs : List ℕ) → ((x : ℕ) → List·Memᴰ x xs → f x ≡ g x) → any f xs ≡ any g xs
+unfolding any
+any-agree f g [] h = refl
+any-agree f g (x ∷ xs) h = let p = h x (List·Memᴰ·head refl) in let q = any-agree f g xs (λ y m. h y (List·Memᴰ·tail m)) in λ i. p i || q i
+
+-- every bound above the term's number gives the same
+
+sizeWithin-same : {n : ℕ} {t : List ℕ} → Ordered n t → (k m i : ℕ) → i < n → i < k → i < m → sizeWithin k t i ≡ sizeWithin m t i
+unfolding sizeWithin
+sizeWithin-same o zero m i h a b = absurd (omega arith)
+sizeWithin-same o (suc k) zero i h a b = absurd (omega arith)
+sizeWithin-same {n} {t} o (suc k) (suc m) i h a b =
+    ap suc
+    (total-agree (sizeWithin k t) (sizeWithin m t) (argumentsOf t i)
+    (λ x p. let l = argumentsOf-before o i x h p in sizeWithin-same o k m x (omega arith) (omega arith) (omega arith)))
+
+pub sizeAt-is : {n : ℕ} {t : List ℕ} → Ordered n t → (i : ℕ) → i < n → sizeAt t i ≡ suc (total (sizeAt t) (argumentsOf t i))
+unfolding sizeAt sizeWithin
+sizeAt-is {n} {t} o i h =
+    ap suc
+    (total-agree (sizeWithin i t) (sizeAt t) (argumentsOf t i)
+    (λ x p. let l = argumentsOf-before o i x h p in sizeWithin-same o i (suc x) x (omega arith) l (omega arith)))
+
+occursWithin-same : {n : ℕ} {t : List ℕ} → Ordered n t → (f k m i : ℕ) → i < n → i < k → i < m → occursWithin k t f i ≡ occursWithin m t f i
+unfolding occursWithin
+occursWithin-same o f zero m i h a b = absurd (omega arith)
+occursWithin-same o f (suc k) zero i h a b = absurd (omega arith)
+occursWithin-same {n} {t} o f (suc k) (suc m) i h a b =
+    ap (λ (c : Bool). eqb f (functionOf t i) || c)
+    (any-agree (occursWithin k t f) (occursWithin m t f) (argumentsOf t i)
+    (λ x p. let l = argumentsOf-before o i x h p in occursWithin-same o f k m x (omega arith) (omega arith) (omega arith)))
+
+pub occursAt-is : {n : ℕ} {t : List ℕ} → Ordered n t → (f i : ℕ) → i < n → occursAt t f i ≡ eqb f (functionOf t i) || any (occursAt t f) (argumentsOf t i)
+unfolding occursAt occursWithin
+occursAt-is {n} {t} o f i h =
+    ap (λ (c : Bool). eqb f (functionOf t i) || c)
+    (any-agree (occursWithin i t f) (occursAt t f) (argumentsOf t i)
+    (λ x p. let l = argumentsOf-before o i x h p in occursWithin-same o f i (suc x) x (omega arith) l (omega arith)))
