@@ -45,3 +45,12 @@ occursWithin (suc k) table f i = eqb f (functionOf table i) || any (occursWithin
 
 unfoldable pub occursAt : List ℕ → ℕ → ℕ → Bool
 occursAt table f i = occursWithin (suc i) table f i
+
+-- of n terms from term i on, whether f stands in each
+unfoldable pub occurrences : List ℕ → ℕ → ℕ → ℕ → List Bool
+occurrences table f i zero = []
+occurrences table f i (suc n) = occursAt table f i ∷ occurrences table f (suc i) n
+
+-- marks, by term number, that speak for a term's arguments
+unfoldable pub markedArgument : List ℕ → List Bool → ℕ → Bool
+markedArgument table marks i = any (λ (a : ℕ). getD marks a false) (argumentsOf table i)
