@@ -2,15 +2,15 @@
 -- long its text is. Assumes nothing.
 use mathlib.Core.Path.{_≡_, refl, sym, ap, _∙_, subst}
 use mathlib.Core.List.{List, [], _∷_, List·Memᴰ, List·Memᴰ·not-nil}
-use Prim.Native.Nat.{ℕ, zero, suc, _+_, _-_, _^_, _≤_, _<_}
+use Prim.Native.Nat.{ℕ, suc, _-_, _≤_}
 use native.Mathlib.Omega.{arith}
 use lib.ListN.{length, take, drop}
 use Rattle.model.specs.Term.{Term, star}
 use Rattle.model.specs.Rules.{RuleSet, entries}
 use Rattle.model.specs.WellFormed.{WellFormed}
-use Rattle.model.specs.Format.{Parsed, good, bad, read}
-use Rattle.model.specs.Stages.{Stage, stage, Verdict, accepted, looping, refused, verdict, cyclicTerms}
-use Rattle.model.specs.Tables.{Checked, checked, left, fronted, termsFront, factsFront}
+use Rattle.model.specs.Format.{good, read}
+use Rattle.model.specs.Stages.{stage, Verdict, accepted, looping, refused, verdict, cyclicTerms}
+use Rattle.model.specs.Tables.{Checked, checked, left, termsFront, factsFront}
 use Rattle.model.specs.Spelled.{termAt}
 use Rattle.format_laws.proofs.Bytes.{read-well-formed}
 use Rattle.table_laws.proofs.Rows.{length-fronted, drop-fronted, fronted-within}

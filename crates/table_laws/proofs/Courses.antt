@@ -3,30 +3,34 @@
 use mathlib.Core.Path.{_≡_, refl, sym, ap, ap₂, _∙_, subst}
 use mathlib.Core.Bool.{Bool, true, false, _&&_}
 use mathlib.Core.Logic.{_⊎_, inl, inr}
-use mathlib.Core.List.{List, [], _∷_, _++_}
-use Prim.Native.Nat.{ℕ, zero, suc, _-_, _≤_, _<_}
+use mathlib.Core.List.{List, []}
+use Prim.Native.Nat.{ℕ, _≤_, _<_}
 use native.Mathlib.Nat.{sub-zero}
 use native.Mathlib.Omega.{arith}
 use lib.Dec.{leb}
-use lib.ListN.{length, take, drop, replicate}
+use lib.ListN.{length, take, replicate}
 use borrow.Author.Tests.{leb-true, le-leb}
 use Rattle.model.specs.Lists.{padded}
 use Rattle.model.specs.Rules.{RuleSet}
 use Rattle.model.specs.Format.{Parsed, good, bad, read}
 use Rattle.model.specs.Stages.{Verdict, accepted, looping, refused, verdict}
 use Rattle.model.specs.Tables.{Checked, checked, left, recorded, fronted, termsFront, factsFront}
-use Rattle.laws.proofs.Bools.{case, and-true, true-and}
-use Rattle.table_laws.proofs.Rows.{take-fronted, drop-fronted, length-fronted}
+use Rattle.laws.proofs.Bools.{case, and-true, true-and, is-false}
+use Rattle.table_laws.proofs.Rows.{take-fronted}
 use Rattle.table_laws.proofs.Refusals.{Faulty, read-faulty, Excessive, verdict-excessive}
+
+-- both fronts are there
+abbrev longEnough : List ℕ → List ℕ → Bool
+longEnough terms₀ facts₀ = leb termsFront (length terms₀) && leb factsFront (length facts₀)
 
 abbrev answer : List ℕ → List ℕ → Bool → Parsed RuleSet → Checked
 answer terms₀ facts₀ false r = record { verdict = refused 1 0; terms = terms₀; facts = facts₀ }
 answer terms₀ facts₀ true (bad n p) = record { verdict = refused n p; terms = terms₀; facts = facts₀ }
 answer terms₀ facts₀ true (good b i) = left b (verdict b) terms₀ facts₀
 
-checked-answer : (bytes terms₀ facts₀ : List ℕ) → checked bytes terms₀ facts₀ ≡ answer terms₀ facts₀ (leb termsFront (length terms₀) && leb factsFront (length facts₀)) (read bytes)
+checked-answer : (bytes terms₀ facts₀ : List ℕ) → checked bytes terms₀ facts₀ ≡ answer terms₀ facts₀ (longEnough terms₀ facts₀) (read bytes)
 unfolding checked
-checked-answer bytes terms₀ facts₀ = go (leb termsFront (length terms₀) && leb factsFront (length facts₀)) (read bytes)
+checked-answer bytes terms₀ facts₀ = go (longEnough terms₀ facts₀) (read bytes)
   where
     go : (b : Bool) (r : Parsed RuleSet) → _≡_ {A = Checked}
         (elim b [
@@ -46,8 +50,19 @@ pub record Fronts (terms₀ facts₀ : List ℕ) : Type 0 where
   pub terms : termsFront ≤ length terms₀
   pub facts : factsFront ≤ length facts₀
 
-long : {terms₀ facts₀ : List ℕ} → Fronts terms₀ facts₀ → leb termsFront (length terms₀) && leb factsFront (length facts₀) ≡ true
-long {terms₀} {facts₀} h = true-and (leb termsFront (length terms₀)) (leb factsFront (length facts₀)) (le-leb termsFront (length terms₀) (h .terms)) (le-leb factsFront (length facts₀) (h .facts))
+long : {terms₀ facts₀ : List ℕ} → Fronts terms₀ facts₀ → longEnough terms₀ facts₀ ≡ true
+long {terms₀} {facts₀} h =
+    true-and (leb termsFront (length terms₀)) (leb factsFront (length facts₀)) (le-leb termsFront (length terms₀) (h .terms))
+    (le-leb factsFront (length facts₀) (h .facts))
+
+-- refusal 1: a list shorter than its front
+pub checked-short : (bytes terms₀ facts₀ : List ℕ) → (length terms₀ < termsFront) ⊎ (length facts₀ < factsFront)
+    → checked bytes terms₀ facts₀ ≡ record { verdict = refused 1 0; terms = terms₀; facts = facts₀ }
+checked-short bytes terms₀ facts₀ h = checked-answer bytes terms₀ facts₀ ∙ ap (λ (t : Bool). answer terms₀ facts₀ t (read bytes)) (is-false (longEnough terms₀ facts₀) (lacking h))
+  where
+    lacking : (length terms₀ < termsFront) ⊎ (length facts₀ < factsFront) → longEnough terms₀ facts₀ ≡ true → ⊥
+    lacking (inl l) e = let k = leb-true termsFront (length terms₀) (and-true (leb termsFront (length terms₀)) (leb factsFront (length facts₀)) e .0) in omega arith
+    lacking (inr l) e = let k = leb-true factsFront (length facts₀) (and-true (leb termsFront (length terms₀)) (leb factsFront (length facts₀)) e .1) in omega arith
 
 pub checked-bad : (bytes terms₀ facts₀ : List ℕ) (n p : ℕ) → Fronts terms₀ facts₀ → read bytes ≡ bad n p
     → checked bytes terms₀ facts₀ ≡ record { verdict = refused n p; terms = terms₀; facts = facts₀ }
@@ -57,6 +72,7 @@ pub checked-good : (bytes terms₀ facts₀ : List ℕ) (b : RuleSet) (i : ℕ) 
     → checked bytes terms₀ facts₀ ≡ left b (verdict b) terms₀ facts₀
 checked-good bytes terms₀ facts₀ b i h e = checked-answer bytes terms₀ facts₀ ∙ ap₂ (answer terms₀ facts₀) (long h) e
 
+-- document 01's order: refusal 1, a fault of the bytes, the verdict
 pub data Course (bytes terms₀ facts₀ : List ℕ) : Type 0 where
   short : checked bytes terms₀ facts₀ ≡ record { verdict = refused 1 0; terms = terms₀; facts = facts₀ } → Course bytes terms₀ facts₀
   faulty : (n p : ℕ) → 2 ≤ n → n ≤ 10 → Fronts terms₀ facts₀ → read bytes ≡ bad n p
@@ -65,9 +81,9 @@ pub data Course (bytes terms₀ facts₀ : List ℕ) : Type 0 where
       → Course bytes terms₀ facts₀
 
 pub course : (bytes terms₀ facts₀ : List ℕ) → Course bytes terms₀ facts₀
-course bytes terms₀ facts₀ = go (case (leb termsFront (length terms₀) && leb factsFront (length facts₀)))
+course bytes terms₀ facts₀ = go (case (longEnough terms₀ facts₀))
   where
-    fronts : leb termsFront (length terms₀) && leb factsFront (length facts₀) ≡ true → Fronts terms₀ facts₀
+    fronts : longEnough terms₀ facts₀ ≡ true → Fronts terms₀ facts₀
     fronts e =
         let (i, j) = and-true (leb termsFront (length terms₀)) (leb factsFront (length facts₀)) e in
         record { terms = leb-true termsFront (length terms₀) i; facts = leb-true factsFront (length facts₀) j }
@@ -76,8 +92,7 @@ course bytes terms₀ facts₀ = go (case (leb termsFront (length terms₀) && l
     parsed h (bad n p) e k = faulty n p (k .0) (k .1) h e (checked-bad bytes terms₀ facts₀ n p h e)
     parsed h (good b i) e k = judged b i h e (checked-good bytes terms₀ facts₀ b i h e)
 
-    go : (leb termsFront (length terms₀) && leb factsFront (length facts₀) ≡ true) ⊎ (leb termsFront (length terms₀) && leb factsFront (length facts₀) ≡ false)
-        → Course bytes terms₀ facts₀
+    go : (longEnough terms₀ facts₀ ≡ true) ⊎ (longEnough terms₀ facts₀ ≡ false) → Course bytes terms₀ facts₀
     go (inl e) = parsed (fronts e) (read bytes) refl (read-faulty bytes)
     go (inr e) = short (checked-answer bytes terms₀ facts₀ ∙ ap (λ (t : Bool). answer terms₀ facts₀ t (read bytes)) e)
 

@@ -1,7 +1,7 @@
 -- A table of fact rows spells out the facts that it was made from. Assumes nothing.
-use mathlib.Core.Path.{_≡_, refl, sym, ap, ap₂, _∙_, subst}
+use mathlib.Core.Path.{_≡_, refl, ap, ap₂, _∙_}
 use mathlib.Core.List.{List, [], _∷_, _++_, map, List·Memᴰ}
-use Prim.Native.Nat.{ℕ, zero, suc, _+_, _-_, _≤_, _<_}
+use Prim.Native.Nat.{ℕ, suc, _+_, _-_, _≤_, _<_}
 use native.Mathlib.Nat.{zero-add, add-zero, add-suc, suc-add}
 use native.Mathlib.Omega.{arith}
 use lib.ListN.{length, getD, take, drop, replicate, length-map}
@@ -12,8 +12,8 @@ use Rattle.model.specs.Triggers.{Fact}
 use Rattle.model.specs.Tables.{number, termRow, factRow}
 use Rattle.model.specs.Spelled.{termAt, factAt, spelledFacts}
 use Rattle.laws.proofs.Facts.{fact-path}
+use Rattle.format_laws.proofs.Lists.{getD-mem}
 use Rattle.table_laws.proofs.Rows.{row-collect, length-padded}
-use Rattle.table_laws.proofs.Numbering.{getD-mem}
 use Rattle.table_laws.proofs.Terms.{TermList, map-read, termAt-number}
 
 -- a fact that a record can hold, over terms numbered by ts

@@ -1,24 +1,24 @@
 -- The records of a stage within the limits fit the fronts of the tables, no number in them is above 2,048, and the lines of the text show them.
 -- Assumes nothing.
-use mathlib.Core.Path.{_≡_, refl, sym, ap, _∙_, subst}
+use mathlib.Core.Path.{_≡_, refl, ap, _∙_, subst}
 use mathlib.Core.Logic.{_⊎_, inl, inr, ⊎-elim}
-use mathlib.Core.List.{List, [], _∷_, _++_, map, List·Memᴰ, List·Memᴰ·cases-cons, List·Memᴰ·not-nil, Memᴰ·append-left}
-use Prim.Native.Nat.{ℕ, zero, suc, _+_, _*_, _^_, _≤_, _<_}
+use mathlib.Core.List.{List, _∷_, _++_, map, List·Memᴰ, List·Memᴰ·cases-cons}
+use Prim.Native.Nat.{ℕ, _≤_, _<_}
 use native.Mathlib.Omega.{arith}
-use lib.ListN.{length, getD, take, drop, replicate, length-append, length-map}
-use lib.Seq.{take-at}
-use Rattle.model.specs.Lists.{collect, padded, row}
+use lib.ListN.{length, take, drop, length-append}
+use Rattle.model.specs.Lists.{padded}
 use Rattle.model.specs.Term.{Term, Terms, star, skolem, list}
 use Rattle.model.specs.Triggers.{Fact}
 use Rattle.model.specs.Stages.{Stage, Verdict}
-use Rattle.model.specs.Tables.{Checked, number, termRow, factRow, fronted, recorded, termsFront, factsFront}
+use Rattle.model.specs.Tables.{Checked, number, termRow, factRow, recorded, termsFront, factsFront}
 use Rattle.laws.proofs.Lists.{collect-mem, map-mem}
-use Rattle.table_laws.proofs.Rows.{length-collect, length-fronted, take-fronted, drop-fronted, padded-mem, fronted-within}
-use Rattle.table_laws.proofs.Numbering.{number-below, getD-number, getD-mem}
-use Rattle.table_laws.proofs.Terms.{TermList, Recordable as RecordableTerm, plain, marked, length-termRow, recordable-mem}
+use Rattle.format_laws.proofs.Lists.{length-collect}
+use Rattle.table_laws.proofs.Rows.{length-fronted, take-fronted, drop-fronted, padded-mem, fronted-within}
+use Rattle.table_laws.proofs.Numbering.{number-below}
+use Rattle.table_laws.proofs.Terms.{Recordable as RecordableTerm, plain, marked, length-termRow, recordable-mem}
 use Rattle.stage_laws.proofs.Lists.{mem-replicate}
 use Rattle.table_laws.proofs.Facts.{Recordable, length-factRow}
-use Rattle.table_laws.proofs.Recorded.{Recorded, recorded-terms, recorded-facts}
+use Rattle.table_laws.proofs.Recorded.{Recorded, termRecords, factRecords, recorded-terms, recorded-facts}
 
 -- within the limits of document 01, with at most one more term
 pub record Within (s : Stage) (us : List Term) : Type 0 where
@@ -65,47 +65,47 @@ factRow-within {ts = ts} {f} h l p x m = go (padded-mem 5 (f .predicate ∷ map 
     go (inr e) = omega arith
 
 module _ {arities : List ℕ} {s : Stage} {us : List Term} (h : Recorded arities s us) (w : Within s us) where
-  terms-fit : length (collect (termRow (s .terms)) (s .terms ++ us)) ≤ termsFront
+  terms-fit : length (termRecords s us) ≤ termsFront
   terms-fit =
       let k = w .terms in
       let l = w .more in
-      rw (length-collect 10 (termRow (s .terms)) (s .terms ++ us) (λ t m. length-termRow (recordable-mem (λ j. star) (s .terms) us (h .terms) m)), length-append) (omega arith)
+      rw (length-collect (termRow (s .terms)) 10 (s .terms ++ us) (λ t m. length-termRow (recordable-mem (λ j. star) (s .terms) us (h .terms) m)), length-append) (omega arith)
 
-  facts-fit : length (collect (factRow (s .terms)) (s .facts)) ≤ factsFront
+  facts-fit : length (factRecords s) ≤ factsFront
   facts-fit =
       let k = w .facts in
-      rw (length-collect 5 (factRow (s .terms)) (s .facts) (λ f m. length-factRow (h .facts f m))) (omega arith)
+      rw (length-collect (factRow (s .terms)) 5 (s .facts) (λ f m. length-factRow (h .facts f m))) (omega arith)
 
   module _ (v : Verdict) (terms₀ facts₀ : List ℕ) where
     abbrev left : Checked
     left = recorded v s us terms₀ facts₀
 
     -- records first and zeros after
-    pub terms-front : take termsFront (left .terms) ≡ padded termsFront (collect (termRow (s .terms)) (s .terms ++ us))
-    terms-front = ap (take termsFront) (recorded-terms v s us terms₀ facts₀) ∙ take-fronted termsFront (collect (termRow (s .terms)) (s .terms ++ us)) terms₀ terms-fit
+    pub terms-front : take termsFront (left .terms) ≡ padded termsFront (termRecords s us)
+    terms-front = ap (take termsFront) (recorded-terms v s us terms₀ facts₀) ∙ take-fronted termsFront (termRecords s us) terms₀ terms-fit
 
-    pub facts-front : take factsFront (left .facts) ≡ padded factsFront (collect (factRow (s .terms)) (s .facts))
-    facts-front = ap (take factsFront) (recorded-facts v s us terms₀ facts₀) ∙ take-fronted factsFront (collect (factRow (s .terms)) (s .facts)) facts₀ facts-fit
+    pub facts-front : take factsFront (left .facts) ≡ padded factsFront (factRecords s)
+    facts-front = ap (take factsFront) (recorded-facts v s us terms₀ facts₀) ∙ take-fronted factsFront (factRecords s) facts₀ facts-fit
 
     -- beyond the fronts nothing changes
     pub terms-beyond : drop termsFront (left .terms) ≡ drop termsFront terms₀
-    terms-beyond = ap (drop termsFront) (recorded-terms v s us terms₀ facts₀) ∙ drop-fronted termsFront (collect (termRow (s .terms)) (s .terms ++ us)) terms₀ terms-fit
+    terms-beyond = ap (drop termsFront) (recorded-terms v s us terms₀ facts₀) ∙ drop-fronted termsFront (termRecords s us) terms₀ terms-fit
 
     pub facts-beyond : drop factsFront (left .facts) ≡ drop factsFront facts₀
-    facts-beyond = ap (drop factsFront) (recorded-facts v s us terms₀ facts₀) ∙ drop-fronted factsFront (collect (factRow (s .terms)) (s .facts)) facts₀ facts-fit
+    facts-beyond = ap (drop factsFront) (recorded-facts v s us terms₀ facts₀) ∙ drop-fronted factsFront (factRecords s) facts₀ facts-fit
 
     pub terms-length : termsFront ≤ length terms₀ → length (left .terms) ≡ length terms₀
-    terms-length k = ap length (recorded-terms v s us terms₀ facts₀) ∙ length-fronted termsFront (collect (termRow (s .terms)) (s .terms ++ us)) terms₀ terms-fit k
+    terms-length k = ap length (recorded-terms v s us terms₀ facts₀) ∙ length-fronted termsFront (termRecords s us) terms₀ terms-fit k
 
     pub facts-length : factsFront ≤ length facts₀ → length (left .facts) ≡ length facts₀
-    facts-length k = ap length (recorded-facts v s us terms₀ facts₀) ∙ length-fronted factsFront (collect (factRow (s .terms)) (s .facts)) facts₀ facts-fit k
+    facts-length k = ap length (recorded-facts v s us terms₀ facts₀) ∙ length-fronted factsFront (factRecords s) facts₀ facts-fit k
 
     -- no number of a record is above 2,048, so tables of 16-bit numbers stay such
     pub terms-small : (c : ℕ) → 2048 ≤ c → ((x : ℕ) → List·Memᴰ x terms₀ → x ≤ c) → (x : ℕ) → List·Memᴰ x (left .terms) → x ≤ c
     terms-small c l k x m =
-        fronted-within c termsFront (collect (termRow (s .terms)) (s .terms ++ us)) terms₀ record-small k x (rw (recorded-terms v s us terms₀ facts₀) at m)
+        fronted-within c termsFront (termRecords s us) terms₀ record-small k x (rw (recorded-terms v s us terms₀ facts₀) at m)
       where
-        record-small : (x : ℕ) → List·Memᴰ x (collect (termRow (s .terms)) (s .terms ++ us)) → x ≤ c
+        record-small : (x : ℕ) → List·Memᴰ x (termRecords s us) → x ≤ c
         record-small x m =
             let (t, i, j) = collect-mem (termRow (s .terms)) (s .terms ++ us) m in
             let n =
@@ -116,9 +116,9 @@ module _ {arities : List ℕ} {s : Stage} {us : List Term} (h : Recorded arities
 
     pub facts-small : (c : ℕ) → 2048 ≤ c → ((x : ℕ) → List·Memᴰ x facts₀ → x ≤ c) → (x : ℕ) → List·Memᴰ x (left .facts) → x ≤ c
     facts-small c l k x m =
-        fronted-within c factsFront (collect (factRow (s .terms)) (s .facts)) facts₀ record-small k x (rw (recorded-facts v s us terms₀ facts₀) at m)
+        fronted-within c factsFront (factRecords s) facts₀ record-small k x (rw (recorded-facts v s us terms₀ facts₀) at m)
       where
-        record-small : (x : ℕ) → List·Memᴰ x (collect (factRow (s .terms)) (s .facts)) → x ≤ c
+        record-small : (x : ℕ) → List·Memᴰ x (factRecords s) → x ≤ c
         record-small x m =
             let (f, i, j) = collect-mem (factRow (s .terms)) (s .facts) m in
             let n = factRow-within (h .facts f i) (w .terms) (w .predicates f i) x j in

@@ -1,14 +1,14 @@
 -- How many Skolem functions a well-formed rule set has at most: 2,048. Assumes nothing.
-use mathlib.Core.Path.{_≡_, refl, sym, ap, _∙_, subst}
+use mathlib.Core.Path.{_≡_, refl, sym, subst}
 use mathlib.Core.Bool.{Bool, true, false, _&&_, not}
 use mathlib.Core.Logic.{_⊎_, inl, inr}
-use mathlib.Core.List.{List, [], _∷_, _++_, List·Memᴰ, List·Memᴰ·head, List·Memᴰ·tail, List·Memᴰ·not-nil, List·Memᴰ·cases-cons}
-use Prim.Native.Nat.{ℕ, zero, suc, _+_, _*_, _≤_, _<_}
+use mathlib.Core.List.{List, [], _∷_, List·Memᴰ, List·Memᴰ·head, List·Memᴰ·tail, List·Memᴰ·not-nil, List·Memᴰ·cases-cons}
+use Prim.Native.Nat.{ℕ, suc, _+_, _*_, _≤_}
 use native.Mathlib.Omega.{arith}
 use lib.ListN.{length}
 use Rattle.model.specs.Lists.{keep, member}
 use Rattle.model.specs.Rules.{Atom, Rule, RuleSet, Disjunct, Entry, names, inBody, existential, variablesOf, disjunctsFrom, countSkolem, entriesFrom, entries}
-use Rattle.model.specs.WellFormed.{WellFormed, WellFormedRule}
+use Rattle.model.specs.WellFormed.{WellFormed}
 use Rattle.laws.proofs.Bools.{case}
 use Rattle.laws.proofs.Lists.{keep-yes, keep-no}
 

@@ -1,45 +1,40 @@
 -- The number of a term is where it stands, both ways. Assumes nothing.
-use mathlib.Core.Path.{_≡_, refl, sym, ap, _∙_, subst}
+use mathlib.Core.Path.{_≡_, sym, ap, _∙_, subst}
 use mathlib.Core.Bool.{Bool, true, false}
 use mathlib.Core.Logic.{_⊎_, inl, inr}
-use mathlib.Core.List.{List, [], _∷_, _++_, List·Memᴰ, List·Memᴰ·head, List·Memᴰ·tail}
-use Prim.Native.Nat.{ℕ, zero, suc, _≤_, _<_}
+use mathlib.Core.List.{List, _∷_, _++_, List·Memᴰ, List·Memᴰ·head, List·Memᴰ·tail}
+use Prim.Native.Nat.{ℕ, zero, suc, _<_}
 use native.Mathlib.Omega.{arith}
 use lib.ListN.{length, getD}
 use Rattle.model.specs.Lists.{index}
 use Rattle.model.specs.Term.{Term, star, same}
 use Rattle.model.specs.Tables.{number}
-use Rattle.laws.proofs.Bools.{case, not-both}
+use Rattle.laws.proofs.Bools.{case}
 use Rattle.laws.proofs.Lists.{Decides, Distinct, none, one, index-here, index-there, index-mem}
 use Rattle.laws.proofs.Terms.{same-decides}
+use Rattle.format_laws.proofs.Lists.{getD-mem}
 
-module _ {ℓ} {A : Type ℓ} where
-  pub getD-mem : (xs : List A) (i : ℕ) (d : A) → i < length xs → List·Memᴰ (getD xs i d) xs
-  getD-mem [] i d h = absurd (omega arith)
-  getD-mem (x ∷ xs) zero d h = List·Memᴰ·head refl
-  getD-mem (x ∷ xs) (suc i) d h = List·Memᴰ·tail (getD-mem xs i d (omega arith))
+module _ {A : Type 0} (eq : A → A → Bool) (dec : Decides eq) where
+  -- what stands once is found where it stands
+  pub index-getD : {xs : List A} → Distinct xs → (i : ℕ) (d : A) → i < length xs → index eq (getD xs i d) xs ≡ i
+  index-getD none i d h = absurd (omega arith)
+  index-getD (one {x = x} {xs = xs} n k) zero d h = index-here eq dec x x xs (dec .complete x)
+  index-getD (one {x = x} {xs = xs} n k) (suc i) d h = go (index-getD k i d (omega arith)) (case (eq (getD xs i d) x))
+    where
+      go : index eq (getD xs i d) xs ≡ i → (eq (getD xs i d) x ≡ true) ⊎ (eq (getD xs i d) x ≡ false) → index eq (getD xs i d) (x ∷ xs) ≡ suc i
+      go below (inl e) = absurd (n (subst (λ (y : A). List·Memᴰ y xs) (dec .sound (getD xs i d) x e) (getD-mem xs i d (omega arith))))
+      go below (inr e) = index-there eq dec (getD xs i d) x xs e ∙ ap suc below
 
-  module _ (eq : A → A → Bool) (dec : Decides eq) where
-    -- what stands once is found where it stands
-    pub index-getD : {xs : List A} → Distinct xs → (i : ℕ) (d : A) → i < length xs → index eq (getD xs i d) xs ≡ i
-    index-getD none i d h = absurd (omega arith)
-    index-getD (one {x = x} {xs = xs} n k) zero d h = index-here eq dec x x xs (dec .complete x)
-    index-getD (one {x = x} {xs = xs} n k) (suc i) d h = go (index-getD k i d (omega arith)) (case (eq (getD xs i d) x))
-      where
-        go : index eq (getD xs i d) xs ≡ i → (eq (getD xs i d) x ≡ true) ⊎ (eq (getD xs i d) x ≡ false) → index eq (getD xs i d) (x ∷ xs) ≡ suc i
-        go below (inl e) = absurd (n (subst (λ (y : A). List·Memᴰ y xs) (dec .sound (getD xs i d) x e) (getD-mem xs i d (omega arith))))
-        go below (inr e) = index-there eq dec (getD xs i d) x xs e ∙ ap suc below
-
-    -- an element of a list's front is found in it
-    pub index-append : {x : A} {xs : List A} (ys : List A) → List·Memᴰ x xs → index eq x (xs ++ ys) ≡ index eq x xs
-    index-append {x} ys (List·Memᴰ·head {x = y} {xs = zs} e) =
-        let k : eq x y ≡ true = subst (λ (w : A). eq x w ≡ true) e (dec .complete x) in
-        index-here eq dec x y (zs ++ ys) k ∙ sym (index-here eq dec x y zs k)
-    index-append {x} ys (List·Memᴰ·tail {x = y} {xs = zs} m) = go (index-append ys m) (case (eq x y))
-      where
-        go : index eq x (zs ++ ys) ≡ index eq x zs → (eq x y ≡ true) ⊎ (eq x y ≡ false) → index eq x (y ∷ (zs ++ ys)) ≡ index eq x (y ∷ zs)
-        go below (inl k) = index-here eq dec x y (zs ++ ys) k ∙ sym (index-here eq dec x y zs k)
-        go below (inr k) = index-there eq dec x y (zs ++ ys) k ∙ ap suc below ∙ sym (index-there eq dec x y zs k)
+  -- an element of a list's front is found in it
+  pub index-append : {x : A} {xs : List A} (ys : List A) → List·Memᴰ x xs → index eq x (xs ++ ys) ≡ index eq x xs
+  index-append {x} ys (List·Memᴰ·head {x = y} {xs = zs} e) =
+      let k : eq x y ≡ true = subst (λ (w : A). eq x w ≡ true) e (dec .complete x) in
+      index-here eq dec x y (zs ++ ys) k ∙ sym (index-here eq dec x y zs k)
+  index-append {x} ys (List·Memᴰ·tail {x = y} {xs = zs} m) = go (index-append ys m) (case (eq x y))
+    where
+      go : index eq x (zs ++ ys) ≡ index eq x zs → (eq x y ≡ true) ⊎ (eq x y ≡ false) → index eq x (y ∷ (zs ++ ys)) ≡ index eq x (y ∷ zs)
+      go below (inl k) = index-here eq dec x y (zs ++ ys) k ∙ sym (index-here eq dec x y zs k)
+      go below (inr k) = index-there eq dec x y (zs ++ ys) k ∙ ap suc below ∙ sym (index-there eq dec x y zs k)
 
 pub number-below : {ts : List Term} (t : Term) → List·Memᴰ t ts → number ts t < length ts
 unfolding number

@@ -1,13 +1,13 @@
 -- The text that `print` writes, for every input: at most 72,767 bytes, each below 128. Assumes nothing.
-use mathlib.Core.Path.{_≡_, refl, sym, ap, _∙_, subst}
-use mathlib.Core.List.{List, [], _∷_, _++_}
-use Prim.Native.Nat.{ℕ, zero, suc, _+_, _-_, _^_, _≤_, _<_}
+use mathlib.Core.Path.{_≡_, refl}
+use mathlib.Core.List.{List, [], _∷_}
+use Prim.Native.Nat.{ℕ, _≤_}
 use native.Mathlib.Omega.{arith}
 use lib.ListN.{length, take, replicate, length-append}
 use Rattle.model.specs.Term.{Term}
 use Rattle.model.specs.Rules.{RuleSet}
 use Rattle.model.specs.WellFormed.{WellFormed}
-use Rattle.model.specs.Format.{Parsed, good, bad, read}
+use Rattle.model.specs.Format.{good, read}
 use Rattle.model.specs.Stages.{Verdict, accepted, looping, refused, stage, verdict}
 use Rattle.model.specs.Tables.{Checked, checked, left, termsFront, factsFront}
 use Rattle.model.specs.Text.{termNumbers, text, declared, textOf, printed}

@@ -1,5 +1,4 @@
 -- Which refusals reading gives, and which the verdict: 2 to 10, and 11 to 14. Assumes nothing.
-use mathlib.Core.Path.{_≡_, refl, sym, subst}
 use mathlib.Core.Bool.{Bool, true, false, _&&_}
 use mathlib.Core.List.{List, [], _∷_}
 use Prim.Native.Nat.{ℕ, zero, suc, _+_, _-_, _≤_}

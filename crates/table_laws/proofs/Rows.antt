@@ -1,8 +1,8 @@
 -- Tables of rows of one width: where a row stands, how long a table is, and what padding and replacing the front leave. Assumes nothing.
-use mathlib.Core.Path.{_≡_, refl, sym, ap, _∙_}
+use mathlib.Core.Path.{_≡_, refl, _∙_}
 use mathlib.Core.Logic.{_⊎_, inl, inr, ⊎-elim}
 use mathlib.Core.List.{List, [], _∷_, _++_, append-assoc, List·Memᴰ, List·Memᴰ·head, List·Memᴰ·tail, List·Memᴰ·append-cases, Memᴰ·append-right}
-use Prim.Native.Nat.{ℕ, zero, suc, _+_, _-_, _*_, _≤_, _<_}
+use Prim.Native.Nat.{ℕ, zero, suc, _-_, _*_, _≤_, _<_}
 use native.Mathlib.Nat.{zero-mul, suc-mul, add-comm}
 use native.Mathlib.Omega.{arith}
 use lib.ListN.{length, getD, take, drop, replicate, length-append, length-drop, length-replicate, take-append-drop, List·getD-append}
@@ -31,14 +31,6 @@ module _ {ℓ} {A : Type ℓ} (w : ℕ) (f : A → List ℕ) where
   row-collect (x ∷ xs) rest d h (suc i) l =
       rw (append-assoc (f x) (collect f xs) rest)
       (row-suc w i (f x) (collect f xs ++ rest) (h x (List·Memᴰ·head refl)) ∙ row-collect xs rest d (λ y m. h y (List·Memᴰ·tail m)) i (omega arith))
-
-  pub length-collect : (xs : List A) → ((x : A) → List·Memᴰ x xs → length (f x) ≡ w) → length (collect f xs) ≡ length xs * w
-  unfolding collect
-  length-collect [] h = sym (zero-mul w)
-  length-collect (x ∷ xs) h =
-      let e = h x (List·Memᴰ·head refl) in
-      let k = length-collect xs (λ y m. h y (List·Memᴰ·tail m)) in
-      rw (suc-mul, length-append) (omega arith)
 
 -- `padded`
 

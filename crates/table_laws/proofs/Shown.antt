@@ -2,19 +2,20 @@
 -- Assumes nothing.
 use mathlib.Core.Path.{_≡_, refl, sym, ap, _∙_, subst}
 use mathlib.Core.List.{List, [], _∷_, _++_, map, List·Memᴰ, List·Memᴰ·not-nil}
-use Prim.Native.Nat.{ℕ, zero, suc, _+_, _-_, _^_, _≤_, _<_}
+use Prim.Native.Nat.{ℕ, suc, _-_, _^_, _≤_, _<_}
 use native.Mathlib.Omega.{arith}
 use lib.ListN.{length, getD, take, drop, replicate, length-map, length-append}
 use lib.Seq.{take-at}
-use Rattle.model.specs.Lists.{collect, padded, row}
+use Rattle.model.specs.Lists.{padded, row}
 use Rattle.model.specs.Term.{Term, Terms, star, skolem, list}
 use Rattle.model.specs.Triggers.{Fact}
 use Rattle.model.specs.Stages.{Stage, Verdict}
 use Rattle.model.specs.Tables.{number, termRow, factRow, recorded}
 use Rattle.model.specs.Text.{termNumbers, factNumbers}
 use Rattle.laws.proofs.Lists.{map-mem}
+use Rattle.format_laws.proofs.Lists.{getD-mem}
 use Rattle.table_laws.proofs.Rows.{row-collect}
-use Rattle.table_laws.proofs.Numbering.{number-below, getD-mem}
+use Rattle.table_laws.proofs.Numbering.{number-below}
 use Rattle.table_laws.proofs.Terms.{Recordable, plain, marked, row-table}
 use Rattle.table_laws.proofs.Facts.{Recordable as RecordableFact, length-factRow}
 use Rattle.table_laws.proofs.Recorded.{Recorded, terms-begin, facts-begin}

@@ -1,10 +1,10 @@
 -- The tables of an accepted or cyclic answer spell out exactly the stage that the answer names, and after a cyclic answer's terms comes the first
 -- cyclic term of the next stage. Assumes nothing.
 use mathlib.Core.Path.{_≡_, refl, sym, ap, _∙_, subst}
-use mathlib.Core.List.{List, [], _∷_, _++_, List·Memᴰ, List·Memᴰ·head, List·Memᴰ·not-nil, List·Memᴰ·eq-of-singleton}
-use Prim.Native.Nat.{ℕ, zero, suc, _+_, _-_, _≤_, _<_}
+use mathlib.Core.List.{List, [], _∷_, List·Memᴰ, List·Memᴰ·head, List·Memᴰ·not-nil, List·Memᴰ·eq-of-singleton}
+use Prim.Native.Nat.{ℕ, suc, _-_}
 use native.Mathlib.Omega.{arith}
-use lib.ListN.{length, getD, take, length-append}
+use lib.ListN.{length, take, length-append}
 use lib.Seq.{getD-append-seam}
 use Rattle.model.specs.Term.{Term, star}
 use Rattle.model.specs.Rules.{RuleSet, entries}
@@ -14,7 +14,7 @@ use Rattle.model.specs.Tables.{Checked, left, recorded}
 use Rattle.model.specs.Spelled.{termAt, spelledTerms, spelledFacts}
 use Rattle.stage_laws.proofs.Outputs.{cyclicTerms-mem}
 use Rattle.stage_laws.proofs.Order.{outputs-terms}
-use Rattle.stage_laws.proofs.Verdict.{Accepted, Looping, accepted-says, looping-says}
+use Rattle.stage_laws.proofs.Verdict.{Looping, accepted-says, looping-says}
 use Rattle.table_laws.proofs.Recorded.{Recorded, terms-spelled, facts-spelled, term-spelled}
 use Rattle.table_laws.proofs.Fronts.{Within}
 use Rattle.table_laws.proofs.Stages.{Next, stage-recorded, stage-within}

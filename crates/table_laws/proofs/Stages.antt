@@ -1,25 +1,25 @@
 -- The stages of a well-formed rule set can be recorded, with more terms of the next stage after their own. Assumes nothing.
 use mathlib.Core.Path.{_≡_, refl, sym, ap, _∙_, subst}
 use mathlib.Core.Logic.{_⊎_, inl, inr, ⊎-elim}
-use mathlib.Core.List.{List, [], _∷_, _++_, List·Memᴰ, List·Memᴰ·append-cases, Memᴰ·append-left, List·Memᴰ·eq-of-singleton}
+use mathlib.Core.List.{List, _∷_, _++_, List·Memᴰ, List·Memᴰ·append-cases, Memᴰ·append-left, List·Memᴰ·eq-of-singleton}
 use Prim.Native.Nat.{ℕ, zero, suc, _+_, _-_, _≤_, _<_}
 use native.Mathlib.Decide.{decLt}
 use native.Mathlib.Omega.{arith}
 use lib.Dec.{eqb}
-use lib.ListN.{length, getD, take, drop, replicate, length-append, take-append-drop, List·getD-append}
+use lib.ListN.{length, getD, take, drop, length-append, take-append-drop, List·getD-append}
 use lib.Seq.{length-take-le, drop-cons, getD-append-add}
 use Rattle.model.specs.Lists.{index}
 use Rattle.model.specs.Term.{Term, Terms, star, skolem, list}
 use Rattle.model.specs.Rules.{RuleSet, Entry, entries, existential}
 use Rattle.model.specs.WellFormed.{WellFormed}
-use Rattle.model.specs.Triggers.{Fact}
-use Rattle.model.specs.Stages.{Stage, stage}
+use Rattle.model.specs.Stages.{stage}
 use Rattle.model.specs.Tables.{number, termRow}
 use Rattle.laws.proofs.Lists.{eqb-decides, index-mem}
 use Rattle.stage_laws.proofs.Growth.{stage-zero-terms, arguments-in-terms}
 use Rattle.stage_laws.proofs.Arities.{facts-well-formed, arguments-range}
 use Rattle.stage_laws.proofs.Order.{Invented, Proper, proper-star, proper-skolem, Ordered, terms-from, terms-proper, terms-ordered}
-use Rattle.table_laws.proofs.Numbering.{number-below, getD-number, getD-mem, number-append}
+use Rattle.format_laws.proofs.Lists.{getD-mem}
+use Rattle.table_laws.proofs.Numbering.{number-below, getD-number, number-append}
 use Rattle.table_laws.proofs.Terms.{Recordable, plain, marked, TermList}
 use Rattle.table_laws.proofs.Recorded.{Recorded}
 use Rattle.table_laws.proofs.Fronts.{Within}

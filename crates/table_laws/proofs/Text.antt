@@ -1,13 +1,13 @@
 -- The text of an answer: every byte is below 128, and how long it is at most for tables whose records are known. Assumes nothing.
-use mathlib.Core.Path.{_≡_, refl, sym, ap, _∙_, subst}
-use mathlib.Core.Bool.{Bool, true, false}
-use mathlib.Core.List.{List, [], _∷_, _++_, map, List·Memᴰ}
-use Prim.Native.Nat.{ℕ, zero, suc, _+_, _*_, _^_, _≤_, _<_}
+use mathlib.Core.Path.{_≡_, refl}
+use mathlib.Core.Bool.{true}
+use mathlib.Core.List.{List, [], _∷_, _++_, List·Memᴰ}
+use Prim.Native.Nat.{ℕ, _+_, _^_, _≤_, _<_}
 use native.Mathlib.Omega.{arith}
 use lib.Dec.{ltb}
-use lib.ListN.{length, getD, take, drop, length-append}
+use lib.ListN.{length, length-append}
 use borrow.Author.Tests.{ltb-true}
-use Rattle.model.specs.Lists.{all, collect, row}
+use Rattle.model.specs.Lists.{all, collect}
 use Rattle.model.specs.Stages.{Verdict, accepted, looping, refused}
 use Rattle.model.specs.Tables.{Checked}
 use Rattle.model.specs.Text.{line, lines, acceptedWord, cyclicWord, refusedWord, termWord, factWord, loopWord, termNumbers, factNumbers, records, text, declared, textOf}
