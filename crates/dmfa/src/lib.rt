@@ -1,1 +1,2 @@
-// The check: its definitions over rows, in specs/.
+// The check: stages, verdict and the caller's tables. The contracts cite the definitions over rows, in specs/.
+pub mod front;
