@@ -4,3 +4,6 @@ pub mod Format
 pub mod Bytes
 pub mod Form
 pub mod RoundTrip
+pub mod Places
+pub mod Agreement
+pub mod Counted

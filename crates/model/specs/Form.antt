@@ -5,9 +5,9 @@
 -- A rule is the count of its disjuncts and five groups of 21 numbers: the body, then the disjuncts.
 -- A group is the count of its atoms and four atoms of five numbers: the predicate, then its variables.
 use mathlib.Core.List.{List, [], _∷_, _++_}
-use mathlib.Core.Bool.{Bool, true, false}
-use Prim.Native.Nat.{ℕ, zero, suc, _+_}
-use lib.Dec.{leb}
+use mathlib.Core.Bool.{Bool, true, false, _&&_}
+use Prim.Native.Nat.{ℕ, zero, suc, _+_, _-_, _*_, _/_, _%_}
+use lib.Dec.{leb, ltb}
 use lib.ListN.{length, getD, drop}
 use Rattle.model.specs.Lists.{collect, padded, numbersFrom}
 use Rattle.model.specs.Rules.{Atom, Rule, RuleSet}
@@ -91,4 +91,31 @@ writing form out =
             | false ↦ record { answer = refusal 1 0; bytes = out }
             | true ↦ record { answer = done (length bytes); bytes = bytes ++ drop (length bytes) out }
           ]
+    ]
+
+-- The counted places (document 01, "Part of the product"), told by the numbers of the form alone, place by place. Below, p is a place in an
+-- atom, a group or a rule that stands at `at`.
+
+-- its predicate, and as many variables as the arity of that
+unfoldable pub countedInAtom : List ℕ → ℕ → ℕ → Bool
+countedInAtom form at p = leb p (getD form (aritiesPlace + getD form at 0) 0)
+
+-- its count, and what counts in so many atoms
+unfoldable pub countedInGroup : List ℕ → ℕ → ℕ → Bool
+countedInGroup form at zero = true
+countedInGroup form at (suc p) = ltb (p / 5) (getD form at 0) && countedInAtom form (suc at + (p / 5) * 5) (p % 5)
+
+-- its count, and what counts in the body and in so many disjuncts
+unfoldable pub countedInRule : List ℕ → ℕ → ℕ → Bool
+countedInRule form at zero = true
+countedInRule form at (suc p) = leb (p / 21) (getD form at 0) && countedInGroup form (suc at + (p / 21) * 21) (p % 21)
+
+-- both counts, what counts in so many rules, and so many arities
+unfoldable pub counted : List ℕ → ℕ → Bool
+counted form zero = true
+counted form (suc zero) = true
+counted form (suc (suc p)) =
+    elim (ltb p 6784) [
+      | true ↦ ltb (p / 106) (getD form 1 0) && countedInRule form (2 + (p / 106) * 106) (p % 106)
+      | false ↦ ltb (p - 6784) (getD form 0 0)
     ]

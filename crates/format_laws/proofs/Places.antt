@@ -1,0 +1,89 @@
+-- Numbers by their places: in padded lists, in what is read from a place on, in rows of one width, and in a form. Assumes nothing.
+use mathlib.Core.Path.{_≡_, refl, ap, _∙_}
+use mathlib.Core.Bool.{Bool, true, false, _&&_}
+use mathlib.Core.List.{List, [], _∷_, _++_, List·Memᴰ, List·Memᴰ·head, List·Memᴰ·tail}
+use Prim.Native.Nat.{ℕ, zero, suc, _+_, _-_, _*_, _/_, _%_, _≤_, _<_}
+use native.Mathlib.Omega.{arith}
+use native.Mathlib.Nat.{suc-mul}
+use lib.Dec.{ltb, leb·zero, leb·suc-zero, leb·suc-suc}
+use lib.ListN.{length, getD, replicate, length-append, length-replicate}
+use borrow.Author.Tests.{lt-ltb, le-ltb}
+use Rattle.model.specs.Lists.{padded, numbersFrom}
+use Rattle.model.specs.WellFormed.{WellFormed}
+use Rattle.model.specs.Form.{aritiesPlace, spaced, decoded, countedInRule, counted}
+use Rattle.format_laws.proofs.Bytes.{arity-at-most}
+
+-- a number where a test passes, 0 where it fails
+abbrev pub only : Bool → ℕ → ℕ
+only t n = elim t [ true ↦ n | false ↦ 0 ]
+
+-- numbers by their places; a place that a list lacks reads as 0
+
+zeros-place : (n p : ℕ) → _≡_ {A = ℕ} (getD (replicate n 0) p 0) 0
+zeros-place zero p = refl
+zeros-place (suc n) zero = refl
+zeros-place (suc n) (suc p) = zeros-place n p
+
+pub padded-place : (n : ℕ) (xs : List ℕ) (p : ℕ) → getD (padded n xs) p 0 ≡ getD xs p 0
+unfolding padded
+padded-place n xs p = go xs p (n - length xs)
+  where
+    go : (xs : List ℕ) (p k : ℕ) → getD (xs ++ replicate k 0) p 0 ≡ getD xs p 0
+    go [] p k = zeros-place k p
+    go (x ∷ xs) zero k = refl
+    go (x ∷ xs) (suc p) k = go xs p k
+
+pub padded-length : (n : ℕ) (xs : List ℕ) → length xs ≤ n → length (padded n xs) ≡ n
+unfolding padded
+padded-length n xs h = omega (arith, length-append xs (replicate (n - length xs) 0), length-replicate {A = ℕ} (n - length xs) 0)
+
+pub numbersFrom-place : (xs : List ℕ) (at n p : ℕ) → getD (numbersFrom xs at n) p 0 ≡ only (ltb p n) (getD xs (at + p) 0)
+unfolding numbersFrom
+numbersFrom-place xs at zero p = rw (leb·suc-zero p)
+numbersFrom-place xs at (suc n) zero = rw (leb·suc-suc 0 n, leb·zero n) (ap (λ (k : ℕ). getD xs k 0) (omega arith))
+numbersFrom-place xs at (suc n) (suc p) =
+    rw (leb·suc-suc (suc p) n) (numbersFrom-place xs (suc at) n p ∙ ap (λ (k : ℕ). only (ltb p n) (getD xs k 0)) (omega arith))
+
+pub numbersFrom-length : (xs : List ℕ) (at n : ℕ) → length (numbersFrom xs at n) ≡ n
+unfolding numbersFrom
+numbersFrom-length xs at zero = refl
+numbersFrom-length xs at (suc n) = ap suc (numbersFrom-length xs (suc at) n)
+
+module _ {A : Type 0} (f : ℕ → A) (width : ℕ) where
+  pub spaced-length : (n at : ℕ) → length (spaced f width n at) ≡ n
+  unfolding spaced
+  spaced-length zero at = refl
+  spaced-length (suc n) at = ap suc (spaced-length n (at + width))
+
+  pub spaced-mem : (n at i : ℕ) → i < n → List·Memᴰ (f (at + i * width)) (spaced f width n at)
+  unfolding spaced
+  spaced-mem zero at i h = absurd (omega arith)
+  spaced-mem (suc n) at zero h = let start : at + 0 * width ≡ at = omega arith in List·Memᴰ·head (ap f start)
+  spaced-mem (suc n) at (suc i) h =
+      let next : at + suc i * width ≡ at + width + i * width = omega (arith, suc-mul i width) in
+      rw next (List·Memᴰ·tail (spaced-mem n (at + width) i (omega arith)))
+
+-- the clauses of `counted`
+
+pub counted-rules : (form : List ℕ) (p : ℕ) → p < 6784
+    → counted form (suc (suc p)) ≡ ltb (p / 106) (getD form 1 0) && countedInRule form (2 + (p / 106) * 106) (p % 106)
+unfolding counted
+counted-rules form p h = rw (lt-ltb p 6784 h, counted)
+
+pub counted-arities : (form : List ℕ) (p : ℕ) → 6784 ≤ p → counted form (suc (suc p)) ≡ ltb (p - 6784) (getD form 0 0)
+unfolding counted
+counted-arities form p h = rw (le-ltb p 6784 h, counted)
+
+-- the arities of a form
+abbrev pub aritiesOf : List ℕ → List ℕ
+aritiesOf form = numbersFrom form aritiesPlace (getD form 0 0)
+
+module _ (form : List ℕ) (w : WellFormed (decoded form)) where
+  pub arities-same : (p : ℕ) → p < length (aritiesOf form) → getD (aritiesOf form) p 0 ≡ getD form (aritiesPlace + p) 0
+  arities-same p h =
+      numbersFrom-place form aritiesPlace (getD form 0 0) p ∙
+      ap (λ (t : Bool). only t (getD form (aritiesPlace + p) 0)) (lt-ltb p (getD form 0 0) (omega (arith, numbersFrom-length form aritiesPlace (getD form 0 0))))
+
+  pub arities-low : (p : ℕ) → p < length (aritiesOf form) → getD (aritiesOf form) p 0 ≤ 4
+  unfolding decoded
+  arities-low = arity-at-most w
