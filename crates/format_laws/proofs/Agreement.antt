@@ -17,7 +17,7 @@ use Rattle.model.specs.WellFormed.{WellFormedAtom, WellFormedAtoms, WellFormedR
 use Rattle.model.specs.Format.{good, bad, ruleSet, bytesOf}
 use Rattle.model.specs.Form.{formLength, aritiesPlace, spaced, atomAt, groupAt, ruleAt, decoded, done, refusal, Writing, writing, countedInAtom, countedInGroup, countedInRule, counted}
 use Rattle.laws.proofs.Bools.{case, true-and}
-use Rattle.format_laws.proofs.Places.{numbersFrom-length, spaced-length, spaced-mem, counted-rules, counted-arities, aritiesOf, arities-same, arities-low}
+use Rattle.format_laws.proofs.Places.{numbersFrom-length, counted-rules, counted-arities, atoms-few, atom-well-formed, disjuncts-few, group-well-formed, aritiesOf, arities-few, rules-few, rule-well-formed, arities-same, arities-low}
 
 -- the second of two tests matters only where the first passes
 and-same : (t : Bool) {a b : Bool} → (t ≡ true → b ≡ a) → t && b ≡ t && a
@@ -115,19 +115,14 @@ module _ (form other : List ℕ) where
       unfolding countedInGroup
       atoms-count = first-agree (countedInGroup form) 21 at h (omega arith) refl
 
-      atom-well-formed : (k : ℕ) → k < getD form at 0 → WellFormedAtom arities (atomAt form arities (suc at + k * 5))
-      unfolding groupAt
-      atom-well-formed k m = w .each (atomAt form arities (suc at + k * 5)) (spaced-mem (atomAt form arities) 5 (getD form at 0) (suc at) k m)
-
       atom-agree : (k : ℕ) → k < getD form at 0 → Agree (countedInAtom form) 5 (suc at + k * 5)
-      unfolding groupAt
-      atom-agree k m = let few = w .few in atoms-agree at k h m (omega (arith, spaced-length (atomAt form arities) 5 (getD form at 0) (suc at)))
+      atom-agree k m = atoms-agree at k h m (atoms-few form arities at w)
 
       groupAt-agree : groupAt other arities at ≡ groupAt form arities at
       unfolding groupAt
       groupAt-agree =
           ap (λ (k : ℕ). spaced (atomAt other arities) 5 k (suc at)) atoms-count ∙
-          spaced-agree (atomAt form arities) (atomAt other arities) 5 (getD form at 0) (suc at) (λ k m. atomAt-agree (suc at + k * 5) (atom-well-formed k m) (atom-agree k m))
+          spaced-agree (atomAt form arities) (atomAt other arities) 5 (getD form at 0) (suc at) (λ k m. atomAt-agree (suc at + k * 5) (atom-well-formed form arities at w k m) (atom-agree k m))
 
       countedInGroup-agree : (p : ℕ) → countedInGroup other at p ≡ countedInGroup form at p
       unfolding countedInGroup
@@ -136,26 +131,18 @@ module _ (form other : List ℕ) where
           ap (λ (n : ℕ). ltb (p / 5) n && countedInAtom other (suc at + (p / 5) * 5) (p % 5)) atoms-count ∙
           and-same (ltb (p / 5) (getD form at 0)) (λ e.
           let m = ltb-true (p / 5) (getD form at 0) e in
-          countedInAtom-agree (suc at + (p / 5) * 5) (atom-well-formed (p / 5) m) (atom-agree (p / 5) m) (p % 5))
+          countedInAtom-agree (suc at + (p / 5) * 5) (atom-well-formed form arities at w (p / 5) m) (atom-agree (p / 5) m) (p % 5))
 
     module _ (at : ℕ) (w : WellFormedRule arities (ruleAt form arities at)) (h : Agree (countedInRule form) 106 at) where
       disjuncts-count : getD other at 0 ≡ getD form at 0
       unfolding countedInRule
       disjuncts-count = first-agree (countedInRule form) 106 at h (omega arith) refl
 
-      group-well-formed : (k : ℕ) → k ≤ getD form at 0 → WellFormedAtoms arities (groupAt form arities (suc at + k * 21))
-      unfolding ruleAt
-      group-well-formed zero m = let start : suc at + 0 * 21 ≡ suc at = omega arith in rw start (w .body)
-      group-well-formed (suc k) m =
-          let next : suc at + suc k * 21 ≡ at + 22 + k * 21 = omega arith in
-          rw next (w .each (groupAt form arities (at + 22 + k * 21)) (spaced-mem (groupAt form arities) 21 (getD form at 0) (at + 22) k m))
-
       group-agree : (k : ℕ) → k ≤ getD form at 0 → Agree (countedInGroup form) 21 (suc at + k * 21)
-      unfolding ruleAt
-      group-agree k m = let few = w .few in groups-agree at k h m (omega (arith, spaced-length (groupAt form arities) 21 (getD form at 0) (at + 22)))
+      group-agree k m = groups-agree at k h m (disjuncts-few form arities at w)
 
       groups-same : (k : ℕ) → k ≤ getD form at 0 → groupAt other arities (suc at + k * 21) ≡ groupAt form arities (suc at + k * 21)
-      groups-same k m = groupAt-agree (suc at + k * 21) (group-well-formed k m) (group-agree k m)
+      groups-same k m = groupAt-agree (suc at + k * 21) (group-well-formed form arities at w k m) (group-agree k m)
 
       ruleAt-agree : ruleAt other arities at ≡ ruleAt form arities at
       unfolding ruleAt
@@ -176,7 +163,7 @@ module _ (form other : List ℕ) where
           ap (λ (n : ℕ). leb (p / 21) n && countedInGroup other (suc at + (p / 21) * 21) (p % 21)) disjuncts-count ∙
           and-same (leb (p / 21) (getD form at 0)) (λ e.
           let m = leb-true (p / 21) (getD form at 0) e in
-          countedInGroup-agree (suc at + (p / 21) * 21) (group-well-formed (p / 21) m) (group-agree (p / 21) m) (p % 21))
+          countedInGroup-agree (suc at + (p / 21) * 21) (group-well-formed form arities at w (p / 21) m) (group-agree (p / 21) m) (p % 21))
 
   module _ (w : WellFormed (decoded form)) (agree : (p : ℕ) → p < formLength → counted form p ≡ true → getD other p 0 ≡ getD form p 0) where
     rules-count : getD other 1 0 ≡ getD form 1 0
@@ -188,23 +175,16 @@ module _ (form other : List ℕ) where
     arities-count = agree 0 (omega arith) refl
 
     arities-alike : (p : ℕ) → p < length (aritiesOf form) → getD other (aritiesPlace + p) 0 ≡ getD form (aritiesPlace + p) 0
-    unfolding decoded
     arities-alike p m =
-        let few = w .few in
+        let few = arities-few form w in
         let count = numbersFrom-length form aritiesPlace (getD form 0 0) in
         let here : 6784 + p - 6784 ≡ p = omega arith in
         let place : suc (suc (6784 + p)) ≡ 6786 + p = omega arith in
         rw place at (agree (suc (suc (6784 + p))) (omega arith) (counted-arities form (6784 + p) (omega arith) ∙ rw here (lt-ltb p (getD form 0 0) (omega arith))))
 
-    rule-well-formed : (k : ℕ) → k < getD form 1 0 → WellFormedRule (aritiesOf form) (ruleAt form (aritiesOf form) (2 + k * 106))
-    unfolding decoded
-    rule-well-formed k m = w .rules (ruleAt form (aritiesOf form) (2 + k * 106)) (spaced-mem (ruleAt form (aritiesOf form)) 106 (getD form 1 0) 2 k m)
-
     rule-agree : (k : ℕ) → k < getD form 1 0 → Agree (countedInRule form) 106 (2 + k * 106)
-    unfolding decoded
     rule-agree k m p l c =
-        let short = w .short in
-        let count = spaced-length (ruleAt form (aritiesOf form)) 106 (getD form 1 0) 2 in
+        let few = rules-few form w in
         let row : (k * 106 + p) / 106 ≡ k = omega arith in
         let rest : (k * 106 + p) % 106 ≡ p = omega arith in
         let place : suc (suc (k * 106 + p)) ≡ 2 + k * 106 + p = omega arith in
@@ -225,7 +205,7 @@ module _ (form other : List ℕ) where
         let q : spaced (ruleAt other arities) 106 (getD other 1 0) 2 ≡ spaced (ruleAt form arities) 106 (getD form 1 0) 2 =
         ap (λ (k : ℕ). spaced (ruleAt other arities) 106 k 2) rules-count ∙
         spaced-agree (ruleAt form arities) (ruleAt other arities) 106 (getD form 1 0) 2
-        (λ k m. ruleAt-agree arities (arities-same form w) (arities-low form w) arities-alike (2 + k * 106) (rule-well-formed k m) (rule-agree k m))
+        (λ k m. ruleAt-agree arities (arities-same form w) (arities-low form w) arities-alike (2 + k * 106) (rule-well-formed form w k m) (rule-agree k m))
         in
         let r : spaced (ruleAt other (aritiesOf other)) 106 (getD other 1 0) 2 ≡ spaced (ruleAt form arities) 106 (getD form 1 0) 2 =
         ap (λ (xs : List ℕ). spaced (ruleAt other xs) 106 (getD other 1 0) 2) p ∙ q
@@ -245,7 +225,7 @@ module _ (form other : List ℕ) where
             counted-rules other p l ∙ ap (λ (n : ℕ). ltb (p / 106) n && countedInRule other (2 + (p / 106) * 106) (p % 106)) rules-count ∙
             and-same (ltb (p / 106) (getD form 1 0)) (λ f.
             let m = ltb-true (p / 106) (getD form 1 0) f in
-            countedInRule-agree (aritiesOf form) (arities-same form w) (arities-low form w) arities-alike (2 + (p / 106) * 106) (rule-well-formed (p / 106) m)
+            countedInRule-agree (aritiesOf form) (arities-same form w) (arities-low form w) arities-alike (2 + (p / 106) * 106) (rule-well-formed form w (p / 106) m)
             (rule-agree (p / 106) m) (p % 106)) ∙
             sym (counted-rules form p l)
         go (inr e) =

@@ -20,7 +20,7 @@ use Rattle.laws.proofs.Bools.{case}
 use Rattle.format_laws.proofs.Bytes.{read-well-formed}
 use Rattle.format_laws.proofs.Form.{encoded-length, decoded-encoded}
 use Rattle.format_laws.proofs.RoundTrip.{writing-done, written-read, reading-done, reading-good}
-use Rattle.format_laws.proofs.Places.{only, padded-place, padded-length, numbersFrom-place, numbersFrom-length, spaced-length, spaced-mem, counted-rules, counted-arities, aritiesOf, arities-same, arities-low}
+use Rattle.format_laws.proofs.Places.{only, padded-place, padded-length, numbersFrom-place, numbersFrom-length, spaced-length, counted-rules, counted-arities, atoms-few, atom-well-formed, disjuncts-few, group-well-formed, aritiesOf, rules-few, rule-well-formed, arities-same, arities-low}
 use Rattle.format_laws.proofs.Agreement.{counted-agree}
 
 -- the row of what is read at a place has the numbers that stand there, where they count, and 0 elsewhere
@@ -80,9 +80,9 @@ module _ (form arities : List ℕ) (same : (p : ℕ) → p < length arities → 
   group-laid at h =
       record {
         wide =
-            let few = h .few in
+            let few = atoms-few form arities at h in
             let l = rows-length form atomRow (atomAt form arities) 5 (countedInAtom form) (getD form at 0) (suc at) each in
-            padded-length 21 (length atoms ∷ collect atomRow atoms) (omega (arith, spaced-length (atomAt form arities) 5 (getD form at 0) (suc at)));
+            padded-length 21 (length atoms ∷ collect atomRow atoms) (omega arith);
         place = λ p. padded-place 21 (length atoms ∷ collect atomRow atoms) p ∙ go p;
       }
     where
@@ -90,7 +90,7 @@ module _ (form arities : List ℕ) (same : (p : ℕ) → p < length arities → 
       atoms = spaced (atomAt form arities) 5 (getD form at 0) (suc at)
 
       each : (k : ℕ) → k < getD form at 0 → Laid form atomRow (atomAt form arities) 5 (countedInAtom form) (suc at + k * 5)
-      each k m = atom-laid (suc at + k * 5) (h .each (atomAt form arities (suc at + k * 5)) (spaced-mem (atomAt form arities) 5 (getD form at 0) (suc at) k m))
+      each k m = atom-laid (suc at + k * 5) (atom-well-formed form arities at h k m)
 
       go : (p : ℕ) → getD (length atoms ∷ collect atomRow atoms) p 0 ≡ only (countedInGroup form at p) (getD form (at + p) 0)
       go zero = spaced-length (atomAt form arities) 5 (getD form at 0) (suc at) ∙ ap (λ (k : ℕ). getD form k 0) (omega arith)
@@ -111,23 +111,16 @@ module _ (form arities : List ℕ) (same : (p : ℕ) → p < length arities → 
 
   groups-laid : (at : ℕ) → WellFormedRule arities (ruleAt form arities at) → (k : ℕ) → k < suc (getD form at 0)
       → Laid form group (groupAt form arities) 21 (countedInGroup form) (suc at + k * 21)
-  unfolding ruleAt
-  groups-laid at h zero m = let start : suc at + 0 * 21 ≡ suc at = omega arith in rw start (group-laid (suc at) (h .body))
-  groups-laid at h (suc k) m =
-      let place : suc at + suc k * 21 ≡ at + 22 + k * 21 = omega arith in
-      rw place
-      (group-laid (at + 22 + k * 21)
-      (h .each (groupAt form arities (at + 22 + k * 21)) (spaced-mem (groupAt form arities) 21 (getD form at 0) (at + 22) k (omega arith))))
+  groups-laid at h k m = group-laid (suc at + k * 21) (group-well-formed form arities at h k (omega arith))
 
   rule-laid : (at : ℕ) → WellFormedRule arities (ruleAt form arities at) → Laid form ruleRow (ruleAt form arities) 106 (countedInRule form) at
   unfolding ruleAt ruleRow countedInRule
   rule-laid at h =
       record {
         wide =
-            let few = h .few in
+            let few = disjuncts-few form arities at h in
             let l = rows-length form group (groupAt form arities) 21 (countedInGroup form) (suc (getD form at 0)) (suc at) (groups-laid at h) in
-            padded-length 106 (length head ∷ groups)
-            (omega (arith, spaced-length (groupAt form arities) 21 (getD form at 0) (at + 22), ap length (groups-behind at (getD form at 0))));
+            padded-length 106 (length head ∷ groups) (omega (arith, ap length (groups-behind at (getD form at 0))));
         place = λ p. padded-place 106 (length head ∷ groups) p ∙ go p;
       }
     where
@@ -148,20 +141,17 @@ module _ (form arities : List ℕ) (same : (p : ℕ) → p < length arities → 
 
 module _ (form : List ℕ) (w : WellFormed (decoded form)) where
   rules-laid : (k : ℕ) → k < getD form 1 0 → Laid form ruleRow (ruleAt form (aritiesOf form)) 106 (countedInRule form) (2 + k * 106)
-  unfolding decoded
-  rules-laid k m =
-      rule-laid form (aritiesOf form) (arities-same form w) (arities-low form w) (2 + k * 106)
-      (w .rules (ruleAt form (aritiesOf form) (2 + k * 106)) (spaced-mem (ruleAt form (aritiesOf form)) 106 (getD form 1 0) 2 k m))
+  rules-laid k m = rule-laid form (aritiesOf form) (arities-same form w) (arities-low form w) (2 + k * 106) (rule-well-formed form w k m)
 
   rules : List ℕ
   rules = padded 6784 (collect ruleRow (spaced (ruleAt form (aritiesOf form)) 106 (getD form 1 0) 2))
 
   rules-length : length rules ≡ 6784
-  unfolding rules decoded
+  unfolding rules
   rules-length =
-      let short = w .short in
+      let few = rules-few form w in
       let l = rows-length form ruleRow (ruleAt form (aritiesOf form)) 106 (countedInRule form) (getD form 1 0) 2 rules-laid in
-      padded-length 6784 (collect ruleRow (spaced (ruleAt form (aritiesOf form)) 106 (getD form 1 0) 2)) (omega (arith, spaced-length (ruleAt form (aritiesOf form)) 106 (getD form 1 0) 2))
+      padded-length 6784 (collect ruleRow (spaced (ruleAt form (aritiesOf form)) 106 (getD form 1 0) 2)) (omega arith)
 
   rules-place : (p : ℕ) → getD rules p 0 ≡ only (ltb (p / 106) (getD form 1 0) && countedInRule form (2 + (p / 106) * 106) (p % 106)) (getD form (suc (suc p)) 0)
   unfolding rules

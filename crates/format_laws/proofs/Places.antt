@@ -9,8 +9,8 @@ use lib.Dec.{ltb, leb·zero, leb·suc-zero, leb·suc-suc}
 use lib.ListN.{length, getD, replicate, length-append, length-replicate}
 use borrow.Author.Tests.{lt-ltb, le-ltb}
 use Rattle.model.specs.Lists.{padded, numbersFrom}
-use Rattle.model.specs.WellFormed.{WellFormed}
-use Rattle.model.specs.Form.{aritiesPlace, spaced, decoded, countedInRule, counted}
+use Rattle.model.specs.WellFormed.{WellFormedAtom, WellFormedAtoms, WellFormedRule, WellFormed}
+use Rattle.model.specs.Form.{aritiesPlace, spaced, atomAt, groupAt, ruleAt, decoded, countedInRule, counted}
 use Rattle.format_laws.proofs.Bytes.{arity-at-most}
 
 -- a number where a test passes, 0 where it fails
@@ -74,11 +74,46 @@ pub counted-arities : (form : List ℕ) (p : ℕ) → 6784 ≤ p → counted for
 unfolding counted
 counted-arities form p h = rw (le-ltb p 6784 h, counted)
 
--- the arities of a form
+-- what is read in a part of a form, if the part is well-formed
+module _ (form arities : List ℕ) (at : ℕ) where
+  module _ (w : WellFormedAtoms arities (groupAt form arities at)) where
+    pub atoms-few : getD form at 0 ≤ 4
+    unfolding groupAt
+    atoms-few = let few = w .few in omega (arith, spaced-length (atomAt form arities) 5 (getD form at 0) (suc at))
+
+    pub atom-well-formed : (k : ℕ) → k < getD form at 0 → WellFormedAtom arities (atomAt form arities (suc at + k * 5))
+    unfolding groupAt
+    atom-well-formed k m = w .each (atomAt form arities (suc at + k * 5)) (spaced-mem (atomAt form arities) 5 (getD form at 0) (suc at) k m)
+
+  module _ (w : WellFormedRule arities (ruleAt form arities at)) where
+    pub disjuncts-few : getD form at 0 ≤ 4
+    unfolding ruleAt
+    disjuncts-few = let few = w .few in omega (arith, spaced-length (groupAt form arities) 21 (getD form at 0) (at + 22))
+
+    -- the body is group 0
+    pub group-well-formed : (k : ℕ) → k ≤ getD form at 0 → WellFormedAtoms arities (groupAt form arities (suc at + k * 21))
+    unfolding ruleAt
+    group-well-formed zero m = let start : suc at + 0 * 21 ≡ suc at = omega arith in rw start (w .body)
+    group-well-formed (suc k) m =
+        let next : suc at + suc k * 21 ≡ at + 22 + k * 21 = omega arith in
+        rw next (w .each (groupAt form arities (at + 22 + k * 21)) (spaced-mem (groupAt form arities) 21 (getD form at 0) (at + 22) k m))
+
 abbrev pub aritiesOf : List ℕ → List ℕ
 aritiesOf form = numbersFrom form aritiesPlace (getD form 0 0)
 
 module _ (form : List ℕ) (w : WellFormed (decoded form)) where
+  pub arities-few : getD form 0 0 ≤ 64
+  unfolding decoded
+  arities-few = let few = w .few in omega (arith, numbersFrom-length form aritiesPlace (getD form 0 0))
+
+  pub rules-few : getD form 1 0 ≤ 64
+  unfolding decoded
+  rules-few = let few = w .short in omega (arith, spaced-length (ruleAt form (aritiesOf form)) 106 (getD form 1 0) 2)
+
+  pub rule-well-formed : (k : ℕ) → k < getD form 1 0 → WellFormedRule (aritiesOf form) (ruleAt form (aritiesOf form) (2 + k * 106))
+  unfolding decoded
+  rule-well-formed k m = w .rules (ruleAt form (aritiesOf form) (2 + k * 106)) (spaced-mem (ruleAt form (aritiesOf form)) 106 (getD form 1 0) 2 k m)
+
   pub arities-same : (p : ℕ) → p < length (aritiesOf form) → getD (aritiesOf form) p 0 ≡ getD form (aritiesPlace + p) 0
   arities-same p h =
       numbersFrom-place form aritiesPlace (getD form 0 0) p ∙
