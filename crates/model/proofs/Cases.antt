@@ -1,12 +1,17 @@
--- The [P] table and the table of misreadings, each computed from the definitions that the promises use. Assumes nothing.
+-- The [P] table, the table of misreadings and the forms of River, each computed from the definitions that the promises use. Assumes nothing.
 use mathlib.Core.Path.{_≡_, refl}
-use mathlib.Core.List.{List, map}
-use Prim.Native.Nat.{ℕ}
+use mathlib.Core.List.{List, [], _∷_, _++_, map}
+use mathlib.Core.Bool.{Bool}
+use Prim.Native.Nat.{ℕ, suc}
 use native.Mathlib.Decide.{ℕ-discrete}
+use lib.Dec.{ltb}
+use lib.ListN.{take, drop, replicate}
 use Rattle.model.specs.Lists
 use Rattle.model.specs.Term
 use Rattle.model.specs.Rules
 use Rattle.model.specs.Format
+use Rattle.model.specs.Form
+use Rattle.model.specs.Form.{done, reading, writing, counted}
 use Rattle.model.specs.Triggers
 use Rattle.model.specs.Blocking
 use Rattle.model.specs.Stages
@@ -14,7 +19,7 @@ use Rattle.model.specs.Tables
 use Rattle.model.specs.Tables.{Checked, checked}
 use Rattle.model.specs.Text
 use Rattle.model.specs.Text.{printed}
-use Rattle.model.specs.Cases.{Case, terms₀, facts₀, expected, expectedTables, cases, riverBytes, riverText, misreadings}
+use Rattle.model.specs.Cases.{Case, terms₀, facts₀, expected, expectedTables, cases, riverBytes, riverForm, riverText, misreadings}
 
 -- `checked`, with every definition that it rests on open
 run : List ℕ → Checked
@@ -31,3 +36,20 @@ p-table = (refl, refl)
 pub not-misread : map (λ (c : Case). checked (c .bytes) terms₀ facts₀) misreadings ≡ map expected misreadings
 unfolding run misreadings expected expectedTables
 not-misread = refl
+
+-- which of the numbers from place p on are counted
+pub countedFrom : List ℕ → ℕ → List ℕ → List Bool
+countedFrom form p [] = []
+countedFrom form p (x ∷ xs) = counted form p ∷ countedFrom form (suc p) xs
+
+-- In a form of River with 9 in every place that is not counted, all others are.
+pub river-counted : countedFrom (riverForm 9) 0 (riverForm 9) ≡ map (λ (x : ℕ). ltb x 9) (riverForm 9)
+unfolding riverForm countedFrom Form.countedInAtom Form.countedInGroup Form.countedInRule Form.counted
+river-counted = refl
+
+-- River is written from a form with 9 in every place that is not counted, and read into one with 0 there.
+pub river-written-and-read :
+    (writing (riverForm 9) (replicate 38 9) ≡ record { answer = done 37; bytes = riverBytes ++ (9 ∷ []) })
+    × (reading riverBytes (replicate 6851 9) ≡ record { answer = done 37; form = riverForm 0 ++ (9 ∷ []) })
+unfolding riverForm riverBytes Lists.all Lists.any Lists.keep Lists.collect Lists.member Lists.padded Lists.numbersFrom Rules.variablesOf Rules.inBody Rules.existential Rules.repeated Rules.detached Format.andThen Format.byte Format.many Format.variable Format.atom Format.atoms Format.sound Format.rule Format.stated Format.ruleSet Format.read Format.atomBytes Format.atomsBytes Format.ruleBytes Format.content Format.bigEndian Format.bytesOf Form.atomRow Form.group Form.ruleRow Form.encoded Form.spaced Form.atomAt Form.groupAt Form.ruleAt Form.decoded Form.reading Form.writing
+river-written-and-read = (refl, refl)

@@ -1,8 +1,8 @@
--- The cases that document 01 marks to be proved, [P], and books on which a misreading of it gives another answer. Their theorems stand in
--- proofs/Cases.antt. Assumes nothing.
-use mathlib.Core.List.{List, [], _∷_}
-use Prim.Native.Nat.{ℕ}
-use lib.ListN.{replicate}
+-- The cases that document 01 marks to be proved, [P], forms of River, and books on which a misreading of it gives another answer. Their
+-- theorems stand in proofs/Cases.antt. Assumes nothing.
+use mathlib.Core.List.{List, [], _∷_, _++_}
+use Prim.Native.Nat.{ℕ, _-_}
+use lib.ListN.{length, replicate}
 use Rattle.model.specs.Lists.{collect, padded}
 use Rattle.model.specs.Stages.{Verdict, accepted, looping, refused}
 use Rattle.model.specs.Tables.{Checked, termsFront, factsFront, fronted}
@@ -60,6 +60,26 @@ cases =
 
 unfoldable pub riverBytes : List ℕ
 riverBytes = 0 ∷ 0 ∷ 0 ∷ 33 ∷ 1 ∷ 3 ∷ 1 ∷ 2 ∷ 1 ∷ 3 ∷ 1 ∷ 0 ∷ 0 ∷ 1 ∷ 1 ∷ 1 ∷ 0 ∷ 1 ∷ 1 ∷ 1 ∷ 0 ∷ 1 ∷ 2 ∷ 1 ∷ 2 ∷ 1 ∷ 1 ∷ 0 ∷ 1 ∷ 1 ∷ 1 ∷ 0 ∷ 1 ∷ 1 ∷ 1 ∷ 2 ∷ 1 ∷ []
+
+-- A form of River with x in every place that is not counted.
+unfoldable pub riverForm : ℕ → List ℕ
+riverForm x = 3 ∷ 3 ∷ (filled 6784 (batches ++ (divided ++ closings)) ++ filled 64 (1 ∷ 2 ∷ 1 ∷ []))
+  where
+    filled : ℕ → List ℕ → List ℕ
+    filled n xs = xs ++ replicate (n - length xs) x
+
+    -- a group of one atom
+    alone : List ℕ → List ℕ
+    alone xs = filled 21 (1 ∷ xs)
+
+    batches : List ℕ
+    batches = filled 106 (1 ∷ (alone (0 ∷ 0 ∷ []) ++ alone (1 ∷ 0 ∷ 1 ∷ [])))
+
+    divided : List ℕ
+    divided = filled 106 (2 ∷ (alone (1 ∷ 0 ∷ 1 ∷ []) ++ (alone (2 ∷ 1 ∷ []) ++ alone (0 ∷ 1 ∷ []))))
+
+    closings : List ℕ
+    closings = filled 106 (1 ∷ (alone (1 ∷ 0 ∷ 1 ∷ []) ++ alone (2 ∷ 1 ∷ [])))
 
 -- the eight lines that document 01 prints for River
 unfoldable pub riverText : List ℕ
