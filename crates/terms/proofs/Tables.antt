@@ -1,40 +1,21 @@
 -- A table's rows as a list: what is found is the index in that list, and what is entered extends it. Over the width. Assumes nothing.
 use mathlib.Core.Path.{_≡_, refl, sym, ap, _∙_, subst}
 use mathlib.Core.Bool.{Bool, true, false, _&&_}
-use mathlib.Core.List.{List, [], _∷_, _++_, append-assoc}
+use mathlib.Core.List.{List, [], _∷_, _++_}
 use mathlib.Core.Logic.{_⊎_, inl, inr}
-use Prim.Native.Nat.{ℕ, zero, suc, _+_, _-_, _*_, _≤_, _<_}
+use Prim.Native.Nat.{ℕ, zero, suc, _+_, _*_, _≤_, _<_}
 use native.Mathlib.Nat.{suc-mul, zero-mul, add-zero, add-suc, suc-add, zero-add, add-comm}
 use native.Mathlib.Numerals.{add-one}
 use native.Mathlib.Omega.{arith}
-use lib.Dec.{eqb, ltb}
-use lib.ListN.{length, getD, take, drop, length-append, length-drop}
+use lib.Dec.{eqb}
+use lib.ListN.{length, take, drop, length-append, length-drop}
 use lib.Seq.{take-at, drop-drop, length-take-le}
-use borrow.Author.Tests.{eqb-true, eq-eqb}
 use Rattle.model.specs.Lists.{any, index, extend}
-use Rattle.laws.proofs.Bools.{case, not-both, and-true, true-and, or-false}
-use Rattle.laws.proofs.Lists.{Decides, extend-old, extend-new}
-use Rattle.terms.specs.Rows.{sameRow, begins, seekRow, findRow, rows, written, entered}
+use Rattle.laws.proofs.Bools.{case, not-both, or-false}
+use Rattle.laws.proofs.Lists.{extend-old, extend-new}
+use Rattle.rows.specs.Tables.{sameRow, enter, numberOf}
+use Rattle.terms.specs.Rows.{begins, seekRow, findRow, rows, written, entered}
 use Rattle.terms.proofs.Rows.{entered-old, entered-new}
-
-sameRow-sound : (xs ys : List ℕ) → sameRow xs ys ≡ true → xs ≡ ys
-unfolding sameRow
-sameRow-sound [] [] h = refl
-sameRow-sound [] (y ∷ ys) h = not-both false h refl
-sameRow-sound (x ∷ xs) [] h = not-both false h refl
-sameRow-sound (x ∷ xs) (y ∷ ys) h =
-    let (a, b) = and-true (eqb x y) (sameRow xs ys) h in
-    let p : x ≡ y = eqb-true x y a in
-    let q : xs ≡ ys = sameRow-sound xs ys b in
-    λ i. p i ∷ q i
-
-sameRow-complete : (xs : List ℕ) → sameRow xs xs ≡ true
-unfolding sameRow
-sameRow-complete [] = refl
-sameRow-complete (x ∷ xs) = true-and (eqb x x) (sameRow xs xs) (eq-eqb x x refl) (sameRow-complete xs)
-
-pub sameRow-decides : Decides sameRow
-sameRow-decides = record { sound = sameRow-sound; complete = sameRow-complete }
 
 -- a list begins with a row if so many of its first numbers are the row
 begins-sameRow : (r ys : List ℕ) → length r ≤ length ys → begins r ys ≡ sameRow r (take (length r) ys)
@@ -87,13 +68,18 @@ seekRow-index r t i (suc n) h = go (case (begins r rest)) (seekRow-index r t (su
         ∙ suc-add i (index sameRow r (rows (length r) n (drop (length r) rest)))
         ∙ sym (add-suc i (index sameRow r (rows (length r) n (drop (length r) rest))))))
 
-pub findRow-index : (r t : List ℕ) (n : ℕ) → n * length r ≤ length t → findRow r n t ≡ index sameRow r (rows (length r) n t)
+findRow-index : (r t : List ℕ) (n : ℕ) → n * length r ≤ length t → findRow r n t ≡ index sameRow r (rows (length r) n t)
 unfolding findRow
 findRow-index r t n h =
     let z : 0 * length r ≡ 0 = zero-mul (length r) in
     seekRow-index r t 0 n (omega arith)
     ∙ zero-add (index sameRow r (rows (length r) n (drop (0 * length r) t)))
     ∙ ap (λ (k : ℕ). index sameRow r (rows (length r) n (drop k t))) z
+
+-- what is found is the row's number in the list of the rows in use
+pub findRow-number : (r t : List ℕ) (n : ℕ) → n * length r ≤ length t → findRow r n t ≡ numberOf r (rows (length r) n t)
+unfolding numberOf
+findRow-number r t n h = findRow-index r t n h
 
 -- a write behind the first w numbers, seen from behind them
 written-take : (w at : ℕ) (r t : List ℕ) → w + at ≤ length t → take w (written r (w + at) t) ≡ take w t
@@ -152,8 +138,8 @@ index-missing r [] h = refl
 index-missing r (x ∷ xs) h = let (a, b) = or-false (sameRow r x) (any (sameRow r) xs) h in rw (a, index) (ap suc (index-missing r xs b))
 
 pub rows-entered : (r t : List ℕ) (n : ℕ) → suc n * length r ≤ length t
-    → rows (length r) (length (extend sameRow (rows (length r) n t) (r ∷ []))) (entered r n t) ≡ extend sameRow (rows (length r) n t) (r ∷ [])
-unfolding extend
+    → rows (length r) (length (enter r (rows (length r) n t))) (entered r n t) ≡ enter r (rows (length r) n t)
+unfolding enter extend
 rows-entered r t n h = go (case (any (sameRow r) (rows w n t)))
   where
     w : ℕ

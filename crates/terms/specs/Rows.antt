@@ -1,17 +1,9 @@
 -- Tables as the code has them: numbers in rows of one width, the first so many rows in use. Said once, over the width. Assumes nothing.
 use mathlib.Core.List.{List, [], _∷_, _++_}
 use mathlib.Core.Bool.{Bool, true, false, _&&_}
-use Prim.Native.Nat.{ℕ, zero, suc, _+_, _-_, _*_}
+use Prim.Native.Nat.{ℕ, zero, suc, _+_, _*_}
 use lib.Dec.{eqb, ltb}
 use lib.ListN.{length, take, drop}
-use Rattle.model.specs.Lists.{row}
-
--- the same numbers, in order
-unfoldable pub sameRow : List ℕ → List ℕ → Bool
-sameRow [] [] = true
-sameRow [] (y ∷ ys) = false
-sameRow (x ∷ xs) [] = false
-sameRow (x ∷ xs) (y ∷ ys) = eqb x y && sameRow xs ys
 
 -- the list begins with these numbers
 unfoldable pub begins : List ℕ → List ℕ → Bool

@@ -1,7 +1,7 @@
 -- Terms as rows of ten numbers: the Skolem function (0 for a constant), its arity, eight argument numbers, unused 0. Sizes, and which
 -- functions stand in a term, by term numbers. Assumes nothing.
 use mathlib.Core.List.{List, [], _∷_}
-use mathlib.Core.Bool.{Bool, true, false, _||_}
+use mathlib.Core.Bool.{Bool, false, _||_}
 use Prim.Native.Nat.{ℕ, zero, suc, _+_, _*_, _≤_, _<_}
 use lib.Dec.{eqb}
 use lib.ListN.{length, getD}
