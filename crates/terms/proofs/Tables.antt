@@ -4,13 +4,13 @@ use mathlib.Core.Bool.{Bool, true, false, _&&_}
 use mathlib.Core.List.{List, [], _∷_, _++_}
 use mathlib.Core.Logic.{_⊎_, inl, inr}
 use Prim.Native.Nat.{ℕ, zero, suc, _+_, _*_, _≤_, _<_}
-use native.Mathlib.Nat.{suc-mul, zero-mul, add-zero, add-suc, suc-add, zero-add, add-comm}
+use native.Mathlib.Nat.{mul-le-mul-right, suc-mul, zero-mul, add-zero, add-suc, suc-add, zero-add, add-comm}
 use native.Mathlib.Numerals.{add-one}
 use native.Mathlib.Omega.{arith}
 use lib.Dec.{eqb}
-use lib.ListN.{length, take, drop, length-append, length-drop}
-use lib.Seq.{take-at, drop-drop, length-take-le}
-use Rattle.model.specs.Lists.{any, index, extend}
+use lib.ListN.{length, getD, take, drop, length-append, length-drop}
+use lib.Seq.{take-at, drop-drop, length-take-le, getD-take, getD-drop}
+use Rattle.model.specs.Lists.{any, index, extend, row}
 use Rattle.laws.proofs.Bools.{case, not-both, or-false}
 use Rattle.laws.proofs.Lists.{extend-old, extend-new}
 use Rattle.rows.specs.Tables.{sameRow, enter, numberOf}
@@ -157,3 +157,23 @@ rows-entered r t n h = go (case (any (sameRow r) (rows w n t)))
         let missing : findRow r n t ≡ n = findRow-index r t n fits ∙ index-missing r (rows w n t) e ∙ rows-length w n t in
         let more : length (rows w n t ++ (r ∷ [])) ≡ suc n = length-append (rows w n t) (r ∷ []) ∙ ap (λ (k : ℕ). k + 1) (rows-length w n t) ∙ add-one n in
         rw (extend-new sameRow (rows w n t) r [] e) (rw (entered-new r t n missing, more) (rows-written n r t h))
+
+-- a row in use, and its numbers
+
+pub rows-at : (w n : ℕ) (t : List ℕ) (j : ℕ) → j < n → getD (rows w n t) j [] ≡ row w j t
+unfolding rows row
+rows-at w zero t j h = absurd (omega arith)
+rows-at w (suc n) t zero h = ap (λ (k : ℕ). take w (drop k t)) (sym (zero-mul w))
+rows-at w (suc n) t (suc j) h =
+    rows-at w n (drop w t) j (omega arith) ∙ ap (take w) (drop-drop (j * w) w t ∙ ap (λ (k : ℕ). drop k t) (sym (offset-behind j w)))
+
+pub row-at : (w j : ℕ) (t : List ℕ) (q : ℕ) → q < w → getD (row w j t) q 0 ≡ getD t (j * w + q) 0
+unfolding row
+row-at w j t q h = getD-take w (drop (j * w) t) q 0 h ∙ getD-drop (j * w) t q 0
+
+pub row-length : (w n j : ℕ) (t : List ℕ) → j < n → n * w ≤ length t → length (row w j t) ≡ w
+unfolding row
+row-length w n j t h l =
+    let a : suc j * w ≤ n * w = mul-le-mul-right w h in
+    let b : suc j * w ≡ w + j * w = offset-behind j w in
+    length-take-le w (drop (j * w) t) (rw length-drop (omega arith))
