@@ -1,0 +1,1 @@
+// laws of the blocking test over rows, in proofs/
