@@ -1,3 +1,4 @@
 pub mod Lists
 pub mod Subterms
 pub mod Apart
+pub mod Copies
