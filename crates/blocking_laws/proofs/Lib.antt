@@ -2,3 +2,4 @@ pub mod Lists
 pub mod Subterms
 pub mod Apart
 pub mod Copies
+pub mod Template
