@@ -3,3 +3,4 @@ pub mod Subterms
 pub mod Apart
 pub mod Copies
 pub mod Template
+pub mod Origins
