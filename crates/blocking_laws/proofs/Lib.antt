@@ -4,3 +4,5 @@ pub mod Apart
 pub mod Copies
 pub mod Template
 pub mod Origins
+pub mod Room
+pub mod Base
