@@ -6,3 +6,4 @@ pub mod Template
 pub mod Origins
 pub mod Room
 pub mod Base
+pub mod Closing
