@@ -7,3 +7,5 @@ pub mod Origins
 pub mod Room
 pub mod Base
 pub mod Closing
+pub mod Satisfied
+pub mod Stages
