@@ -9,3 +9,4 @@ pub mod Base
 pub mod Closing
 pub mod Satisfied
 pub mod Stages
+pub mod Test
