@@ -10,3 +10,4 @@ pub mod Closing
 pub mod Satisfied
 pub mod Stages
 pub mod Test
+pub mod Growth
