@@ -1,0 +1,1 @@
+// the stages over rows are those over trees, in proofs/
