@@ -2,3 +2,5 @@ pub mod Lists
 pub mod Stages
 pub mod Sizes
 pub mod Cyclic
+pub mod Loops
+pub mod Handled
