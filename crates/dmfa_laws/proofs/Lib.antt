@@ -4,3 +4,4 @@ pub mod Sizes
 pub mod Cyclic
 pub mod Loops
 pub mod Handled
+pub mod Follows
