@@ -5,3 +5,4 @@ pub mod Cyclic
 pub mod Loops
 pub mod Handled
 pub mod Follows
+pub mod Making
