@@ -6,3 +6,5 @@ pub mod Loops
 pub mod Handled
 pub mod Follows
 pub mod Making
+pub mod Grown
+pub mod Judging
