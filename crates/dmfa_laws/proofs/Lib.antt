@@ -8,3 +8,4 @@ pub mod Follows
 pub mod Making
 pub mod Grown
 pub mod Judging
+pub mod Room
