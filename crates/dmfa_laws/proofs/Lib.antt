@@ -9,3 +9,4 @@ pub mod Making
 pub mod Grown
 pub mod Judging
 pub mod Room
+pub mod Limits
