@@ -1,0 +1,90 @@
+-- Laws of lists that are read number by number and row by row, and of rows that are filled from the front. Assumes nothing.
+use mathlib.Core.Path.{_≡_, refl, sym, ap, ap₂, _∙_}
+use mathlib.Core.List.{List, [], _∷_, _++_, map, append-assoc, List·Memᴰ, List·Memᴰ·head, List·Memᴰ·tail}
+use Prim.Native.Nat.{ℕ, zero, suc, _+_, _-_, _*_, _≤_, _<_}
+use native.Mathlib.Omega.{arith}
+use native.Mathlib.Nat.{zero-mul, suc-mul}
+use native.Mathlib.Numerals.{add-one}
+use lib.ListN.{length, getD, set, replicate, length-append, length-replicate, length-map}
+use lib.Seq.{set-at}
+use Rattle.model.specs.Lists.{numbersFrom, padded}
+use Rattle.model.specs.Form.{spaced}
+use Rattle.rules.specs.Places.{filled}
+
+pub length-numbersFrom : (xs : List ℕ) (at n : ℕ) → length (numbersFrom xs at n) ≡ n
+unfolding numbersFrom
+length-numbersFrom xs at zero = refl
+length-numbersFrom xs at (suc n) = ap suc (length-numbersFrom xs (suc at) n)
+
+pub getD-numbersFrom : (xs : List ℕ) (at n i : ℕ) → i < n → getD (numbersFrom xs at n) i 0 ≡ getD xs (at + i) 0
+unfolding numbersFrom
+getD-numbersFrom xs at zero i h = absurd (omega arith)
+getD-numbersFrom xs at (suc n) zero h = let e : at ≡ at + 0 = omega arith in ap (λ (p : ℕ). getD xs p 0) e
+getD-numbersFrom xs at (suc n) (suc i) h =
+    let e : suc at + i ≡ at + suc i = omega arith in
+    getD-numbersFrom xs (suc at) n i (omega arith) ∙ ap (λ (p : ℕ). getD xs p 0) e
+
+-- one number more
+pub numbersFrom-more : (xs : List ℕ) (at n : ℕ) → numbersFrom xs at (suc n) ≡ numbersFrom xs at n ++ (getD xs (at + n) 0 ∷ [])
+unfolding numbersFrom
+numbersFrom-more xs at zero = let e : at ≡ at + 0 = omega arith in ap (λ (p : ℕ). getD xs p 0 ∷ []) e
+numbersFrom-more xs at (suc n) =
+    let e : suc at + n ≡ at + suc n = omega arith in
+    ap (λ (ys : List ℕ). getD xs at 0 ∷ ys) (numbersFrom-more xs (suc at) n ∙ ap (λ (p : ℕ). numbersFrom xs (suc at) n ++ (getD xs p 0 ∷ [])) e)
+
+module _ {A : Type 0} where
+  pub getD-mem : (xs : List A) (n : ℕ) (d : A) → n < length xs → List·Memᴰ (getD xs n d) xs
+  getD-mem [] n d h = absurd (omega arith)
+  getD-mem (x ∷ xs) zero d h = List·Memᴰ·head refl
+  getD-mem (x ∷ xs) (suc n) d h = List·Memᴰ·tail (getD-mem xs n d (omega arith))
+
+  module _ (f : ℕ → A) (width : ℕ) where
+    pub length-spaced : (n at : ℕ) → length (spaced f width n at) ≡ n
+    unfolding spaced
+    length-spaced zero at = refl
+    length-spaced (suc n) at = ap suc (length-spaced n (at + width))
+
+    pub getD-spaced : (n at i : ℕ) (d : A) → i < n → getD (spaced f width n at) i d ≡ f (at + i * width)
+    unfolding spaced
+    getD-spaced zero at i d h = absurd (omega arith)
+    getD-spaced (suc n) at zero d h = let e : at ≡ at + 0 * width = omega (arith, zero-mul width) in ap f e
+    getD-spaced (suc n) at (suc i) d h =
+        let e : at + width + i * width ≡ at + suc i * width = omega (arith, suc-mul i width) in
+        getD-spaced n (at + width) i d (omega arith) ∙ ap f e
+
+    -- one row more
+    pub spaced-more : (n at : ℕ) → spaced f width (suc n) at ≡ spaced f width n at ++ (f (at + n * width) ∷ [])
+    unfolding spaced
+    spaced-more zero at = let e : at ≡ at + 0 * width = omega (arith, zero-mul width) in ap (λ (p : ℕ). f p ∷ []) e
+    spaced-more (suc n) at =
+        let e : at + width + n * width ≡ at + suc n * width = omega (arith, suc-mul n width) in
+        ap (λ (ys : List A). f at ∷ ys) (spaced-more n (at + width) ∙ ap (λ (p : ℕ). spaced f width n (at + width) ++ (f p ∷ [])) e)
+
+  -- one place more is filled
+  pub filled-more : (n : ℕ) (z : A) (xs : List A) (k : ℕ) (x : A) → length xs ≡ k → k < n → set (filled n z xs) k x ≡ filled n z (xs ++ (x ∷ []))
+  unfolding filled
+  filled-more n z xs k x e h =
+      let m : n - length xs ≡ suc (n - suc k) = omega arith in
+      let l : n - length (xs ++ (x ∷ [])) ≡ n - suc k = omega (arith, length-append xs (x ∷ [])) in
+      ap (λ (j : ℕ). set (xs ++ replicate j z) k x) m
+      ∙ set-at xs z (replicate (n - suc k) z) x k e
+      ∙ sym (append-assoc xs (x ∷ []) (replicate (n - suc k) z))
+      ∙ ap (λ (j : ℕ). (xs ++ (x ∷ [])) ++ replicate j z) (sym l)
+
+  pub length-filled : (n : ℕ) (z : A) (xs : List A) → length xs ≤ n → length (filled n z xs) ≡ n
+  unfolding filled
+  length-filled n z xs h = omega (arith, length-append xs (replicate (n - length xs) z), length-replicate (n - length xs) z)
+
+pub padded-filled : (n : ℕ) (xs : List ℕ) → padded n xs ≡ filled n 0 xs
+unfolding padded filled
+padded-filled n xs = refl
+
+module _ {A B : Type 0} where
+  pub map-more : (f : A → B) (xs : List A) (x : A) → map f (xs ++ (x ∷ [])) ≡ map f xs ++ (f x ∷ [])
+  map-more f [] x = refl
+  map-more f (y ∷ ys) x = ap (λ (zs : List B). f y ∷ zs) (map-more f ys x)
+
+  pub map-spaced : (g : A → B) (f : ℕ → A) (width n at : ℕ) → map g (spaced f width n at) ≡ spaced (λ (p : ℕ). g (f p)) width n at
+  unfolding spaced
+  map-spaced g f width zero at = refl
+  map-spaced g f width (suc n) at = ap (λ (ys : List B). g (f at) ∷ ys) (map-spaced g f width n (at + width))
