@@ -1,1 +1,1 @@
--- laws of the definitions over rows
+pub mod Copies

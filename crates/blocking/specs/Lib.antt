@@ -1,3 +1,5 @@
+pub mod Room
 pub mod Copies
+pub mod Copying
 pub mod Origins
 pub mod Test

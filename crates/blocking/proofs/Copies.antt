@@ -1,0 +1,352 @@
+-- Laws of copies: a copy argument by argument, whatever bounds its depth; and that tables only grow. Assumes nothing.
+use mathlib.Core.Path.{_≡_, refl, sym, ap, _∙_, subst}
+use mathlib.Core.Bool.{Bool, true, false}
+use mathlib.Core.List.{List, [], _∷_, _++_, append-assoc, List·Memᴰ, List·Memᴰ·head, List·Memᴰ·tail}
+use mathlib.Core.Logic.{_⊎_, inl, inr}
+use Prim.Native.Nat.{ℕ, zero, suc, _+_, _-_, _*_, _≤_, _<_}
+use native.Mathlib.Nat.{suc-mul, zero-mul, add-zero, add-suc, suc-add, add-comm}
+use native.Mathlib.Numerals.{add-one}
+use native.Mathlib.Omega.{arith}
+use lib.Dec.{eqb}
+use lib.ListN.{length, getD, take, drop, set, replicate, length-append}
+use lib.Seq.{drop-drop, drop-cons, getD-take, getD-drop, take-take, take-all, take-suc, take-add, set-append-seam, length-take-le}
+use borrow.Author.Tests.{eqb-true}
+use Rattle.model.specs.Lists.{numbersFrom, padded}
+use Rattle.laws.proofs.Bools.{case}
+use Rattle.terms.specs.Rows.{rows, written}
+use Rattle.terms.specs.Terms.{Ordered, functionOf, arityOf, argumentOf, argumentsOf}
+use Rattle.terms.proofs.Tables.{rows-written, rows-length}
+use Rattle.terms.proofs.Terms.{argumentsOf-before}
+use Rattle.blocking.specs.Copies.{constantRow, argumentsIn, Copies, copyAll, copyTerm}
+use Rattle.blocking.specs.Copying.{copiedArity}
+use Rattle.blocking.specs.Room.{Room}
+
+pub room-same : {w : ℕ} {a : List ℕ} {rs : List (List ℕ)} (b : List ℕ) → length b ≡ length a → Room w a rs → Room w b rs
+room-same b e r = let f = r .fits in let w = r .few in record { fits = omega arith; few = omega arith }
+
+-- rows as a list, row by row
+
+pub getD-rows : (w n : ℕ) (t : List ℕ) (i : ℕ) → i < n → getD (rows w n t) i [] ≡ take w (drop (i * w) t)
+unfolding rows
+getD-rows w zero t i h = absurd (omega arith)
+getD-rows w (suc n) t zero h = rw (zero-mul w)
+getD-rows w (suc n) t (suc i) h =
+    getD-rows w n (drop w t) i (omega arith)
+    ∙ ap (take w) (drop-drop (i * w) w t ∙ ap (λ (k : ℕ). drop k t) (add-comm w (i * w) ∙ sym (suc-mul i w)))
+
+pub getD-cell : (n : ℕ) (t : List ℕ) (i k : ℕ) → i < n → k < 10 → getD (getD (rows 10 n t) i []) k 0 ≡ getD t (i * 10 + k) 0
+getD-cell n t i k h l =
+    ap (λ (r : List ℕ). getD r k 0) (getD-rows 10 n t i h) ∙ getD-take 10 (drop (i * 10) t) k 0 l ∙ getD-drop (i * 10) t k 0
+
+row-function : (n : ℕ) (t : List ℕ) (i : ℕ) → i < n → getD (getD (rows 10 n t) i []) 0 0 ≡ functionOf t i
+row-function n t i h = getD-cell n t i 0 h (omega arith) ∙ ap (λ (k : ℕ). getD t k 0) (add-zero (i * 10))
+
+numbersFrom-take : (xs : List ℕ) (at n : ℕ) → at + n ≤ length xs → numbersFrom xs at n ≡ take n (drop at xs)
+unfolding numbersFrom
+numbersFrom-take xs at zero h = refl
+numbersFrom-take xs at (suc n) h =
+    ap (λ (ys : List ℕ). getD xs at 0 ∷ ys) (numbersFrom-take xs (suc at) n (omega arith))
+    ∙ ap (take (suc n)) (sym (drop-cons xs at 0 (omega arith)))
+
+numbersFrom-length : (xs : List ℕ) (at n : ℕ) → length (numbersFrom xs at n) ≡ n
+unfolding numbersFrom
+numbersFrom-length xs at zero = refl
+numbersFrom-length xs at (suc n) = ap suc (numbersFrom-length xs (suc at) n)
+
+numbersFrom-at : (xs : List ℕ) (at n j : ℕ) → j < n → getD (numbersFrom xs at n) j 0 ≡ getD xs (at + j) 0
+unfolding numbersFrom
+numbersFrom-at xs at zero j h = absurd (omega arith)
+numbersFrom-at xs at (suc n) zero h = rw (add-zero at)
+numbersFrom-at xs at (suc n) (suc j) h = numbersFrom-at xs (suc at) n j (omega arith) ∙ ap (λ (k : ℕ). getD xs k 0) (suc-add at j ∙ sym (add-suc at j))
+
+arguments-length : (t : List ℕ) (i : ℕ) → length (argumentsOf t i) ≡ arityOf t i
+unfolding argumentsOf
+arguments-length t i = numbersFrom-length t (i * 10 + 2) (arityOf t i)
+
+behind-two : (ys : List ℕ) → drop 2 (take 10 ys) ≡ take 8 (drop 2 ys)
+behind-two [] = refl
+behind-two (x ∷ []) = refl
+behind-two (x ∷ y ∷ ys) = refl
+
+pub argumentsIn-row : {n : ℕ} {t : List ℕ} → Ordered n t → (i : ℕ) → i < n → argumentsIn (getD (rows 10 n t) i []) ≡ argumentsOf t i
+unfolding argumentsIn argumentsOf
+argumentsIn-row {n} {t} o i h =
+    let r : List ℕ = getD (rows 10 n t) i [] in
+    let a = o .arity i h in
+    let k = o .room in
+    ap (λ (m : ℕ). take m (drop 2 r)) (getD-cell n t i 1 h (omega arith))
+    ∙ ap (λ (x : List ℕ). take (arityOf t i) (drop 2 x)) (getD-rows 10 n t i h)
+    ∙ ap (take (arityOf t i)) (behind-two (drop (i * 10) t))
+    ∙ take-take (arityOf t i) 8 (drop 2 (drop (i * 10) t)) a
+    ∙ ap (take (arityOf t i)) (drop-drop 2 (i * 10) t)
+    ∙ sym (numbersFrom-take t (i * 10 + 2) (arityOf t i) (omega arith))
+
+-- copies of a list of terms
+
+copyAll-agree : (f g : ℕ → List (List ℕ) → List (List ℕ)) (is : List ℕ) (c : Copies)
+    → ((x : ℕ) → List·Memᴰ x is → (ts : List (List ℕ)) → f x ts ≡ g x ts) → copyAll f is c ≡ copyAll g is c
+unfolding copyAll
+copyAll-agree f g [] c h = refl
+copyAll-agree f g (i ∷ is) c h =
+    ap (λ (ts : List (List ℕ)). copyAll f is (record { numbers = c .numbers ++ ((length ts - 1) ∷ []); terms = ts })) (h i (List·Memᴰ·head refl) (c .terms))
+    ∙ copyAll-agree f g is (record { numbers = c .numbers ++ ((length (g i (c .terms)) - 1) ∷ []); terms = g i (c .terms) }) (λ x p ts. h x (List·Memᴰ·tail p) ts)
+
+pub copyAll-append : (f : ℕ → List (List ℕ) → List (List ℕ)) (is js : List ℕ) (c : Copies) → copyAll f (is ++ js) c ≡ copyAll f js (copyAll f is c)
+unfolding copyAll
+copyAll-append f [] js c = refl
+copyAll-append f (i ∷ is) js c = copyAll-append f is js (record { numbers = c .numbers ++ ((length (f i (c .terms)) - 1) ∷ []); terms = f i (c .terms) })
+
+pub copyAll-numbers : (f : ℕ → List (List ℕ) → List (List ℕ)) (is : List ℕ) (c : Copies)
+    → length (copyAll f is c .numbers) ≡ length (c .numbers) + length is
+unfolding copyAll
+copyAll-numbers f [] c = sym (add-zero (length (c .numbers)))
+copyAll-numbers f (i ∷ is) c =
+    let next : Copies = record { numbers = c .numbers ++ ((length (f i (c .terms)) - 1) ∷ []); terms = f i (c .terms) } in
+    let e = length-append (c .numbers) ((length (f i (c .terms)) - 1) ∷ []) in
+    copyAll-numbers f is next ∙ omega arith
+
+pub copyAll-grows : (f : ℕ → List (List ℕ) → List (List ℕ)) → ((i : ℕ) (ts : List (List ℕ)) → length ts < length (f i ts)) → (is : List ℕ) (c : Copies)
+    → length (c .terms) ≤ length (copyAll f is c .terms)
+unfolding copyAll
+copyAll-grows f g [] c = omega arith
+copyAll-grows f g (i ∷ is) c =
+    let a = g i (c .terms) in
+    let b = copyAll-grows f g is (record { numbers = c .numbers ++ ((length (f i (c .terms)) - 1) ∷ []); terms = f i (c .terms) }) in
+    omega arith
+
+pub copyTerm-grows : (k : ℕ) (s : List (List ℕ)) (i : ℕ) (ts : List (List ℕ)) → length ts < length (copyTerm k s i ts)
+unfolding copyTerm
+copyTerm-grows zero s i ts = rw length-append (omega arith)
+copyTerm-grows (suc k) s i ts = go (copyAll-grows (copyTerm k s) (λ j us. copyTerm-grows k s j us) (argumentsIn (getD s i [])) (record { numbers = []; terms = ts })) (case (eqb (getD (getD s i []) 0 0) 0))
+  where
+    go : length ts ≤ length (copyAll (copyTerm k s) (argumentsIn (getD s i [])) (record { numbers = []; terms = ts }) .terms)
+        → (eqb (getD (getD s i []) 0 0) 0 ≡ true) ⊎ (eqb (getD (getD s i []) 0 0) 0 ≡ false) → length ts < length (copyTerm (suc k) s i ts)
+    go b (inl e) = rw (e, copyTerm) (rw length-append (omega arith))
+    go b (inr e) = rw (e, copyTerm) (rw length-append (omega arith))
+
+-- what is made of a row and of the copies of its arguments
+abbrev copied : List ℕ → List (List ℕ) → Copies → List (List ℕ)
+copied r ts c =
+    elim (eqb (getD r 0 0) 0) [ true ↦ ts ++ (constantRow ∷ []) | false ↦ c .terms ++ (padded 10 (getD r 0 0 ∷ getD r 1 0 ∷ c .numbers) ∷ []) ]
+
+-- every bound above the term's number gives the same
+pub copyTerm-same : {n : ℕ} {t : List ℕ} → Ordered n t → (k m i : ℕ) → i < n → i < k → i < m → (ts : List (List ℕ))
+    → copyTerm k (rows 10 n t) i ts ≡ copyTerm m (rows 10 n t) i ts
+unfolding copyTerm
+copyTerm-same o zero m i h a b ts = absurd (omega arith)
+copyTerm-same o (suc k) zero i h a b ts = absurd (omega arith)
+copyTerm-same {n} {t} o (suc k) (suc m) i h a b ts =
+    ap (copied (getD (rows 10 n t) i []) ts)
+    (copyAll-agree (copyTerm k (rows 10 n t)) (copyTerm m (rows 10 n t)) (argumentsIn (getD (rows 10 n t) i [])) (record { numbers = []; terms = ts })
+    (λ x p us.
+    let l = argumentsOf-before o i x h (subst (λ (xs : List ℕ). List·Memᴰ x xs) (argumentsIn-row o i h) p) in
+    copyTerm-same o k m x (omega arith) (omega arith) (omega arith) us))
+
+-- the copies of the first j arguments of term i
+pub upTo : ℕ → List ℕ → ℕ → List (List ℕ) → ℕ → Copies
+upTo n t i ts j = copyAll (copyTerm n (rows 10 n t)) (take j (argumentsOf t i)) (record { numbers = []; terms = ts })
+
+pub upTo-none : (n : ℕ) (t : List ℕ) (i : ℕ) (ts : List (List ℕ)) → upTo n t i ts 0 ≡ record { numbers = []; terms = ts }
+unfolding upTo copyAll
+upTo-none n t i ts = refl
+
+pub upTo-more : (n : ℕ) (t : List ℕ) (i : ℕ) (ts : List (List ℕ)) (j : ℕ) → j < arityOf t i
+    → upTo n t i ts (j + 1)
+    ≡ (let us : List (List ℕ) = copyTerm n (rows 10 n t) (argumentOf t i j) (upTo n t i ts j .terms) in
+    record { numbers = upTo n t i ts j .numbers ++ ((length us - 1) ∷ []); terms = us })
+unfolding upTo copyAll argumentsOf
+upTo-more n t i ts j h =
+    let l = arguments-length t i in
+    ap (λ (k : ℕ). upTo n t i ts k) (add-one j)
+    ∙ ap (λ (xs : List ℕ). copyAll (copyTerm n (rows 10 n t)) xs (record { numbers = []; terms = ts }))
+    (take-suc (argumentsOf t i) j 0 (omega arith) ∙ ap (λ (a : ℕ). take j (argumentsOf t i) ++ (a ∷ [])) (numbersFrom-at t (i * 10 + 2) (arityOf t i) j h))
+    ∙ copyAll-append (copyTerm n (rows 10 n t)) (take j (argumentsOf t i)) (argumentOf t i j ∷ []) (record { numbers = []; terms = ts })
+
+pub upTo-numbers : (n : ℕ) (t : List ℕ) (i : ℕ) (ts : List (List ℕ)) (j : ℕ) → j ≤ arityOf t i → length (upTo n t i ts j .numbers) ≡ j
+unfolding upTo
+upTo-numbers n t i ts j h =
+    let l = arguments-length t i in
+    let e = copyAll-numbers (copyTerm n (rows 10 n t)) (take j (argumentsOf t i)) (record { numbers = []; terms = ts }) in
+    let k = length-take-le j (argumentsOf t i) (omega arith) in
+    omega arith
+
+pub upTo-grows : (n : ℕ) (t : List ℕ) (i : ℕ) (ts : List (List ℕ)) (j k : ℕ) → j ≤ k → length (upTo n t i ts j .terms) ≤ length (upTo n t i ts k .terms)
+unfolding upTo
+upTo-grows n t i ts j k h =
+    let f = copyTerm n (rows 10 n t) in
+    let start : Copies = record { numbers = []; terms = ts } in
+    let e : j + (k - j) ≡ k = omega arith in
+    let b = copyAll-grows f (λ x us. copyTerm-grows n (rows 10 n t) x us) (take (k - j) (drop j (argumentsOf t i))) (copyAll f (take j (argumentsOf t i)) start) in
+    let q : upTo n t i ts k .terms ≡ copyAll f (take (k - j) (drop j (argumentsOf t i))) (copyAll f (take j (argumentsOf t i)) start) .terms =
+    ap (λ (m : ℕ). copyAll f (take m (argumentsOf t i)) start .terms) (sym e)
+    ∙ ap (λ (xs : List ℕ). copyAll f xs start .terms) (take-add j (k - j) (argumentsOf t i))
+    ∙ ap (λ (c : Copies). c .terms) (copyAll-append f (take j (argumentsOf t i)) (take (k - j) (drop j (argumentsOf t i))) start) in
+    omega (arith, ap length q)
+
+pub copiedArity-le : (t : List ℕ) (i : ℕ) → copiedArity t i ≤ arityOf t i
+unfolding copiedArity
+copiedArity-le t i = go (case (eqb (functionOf t i) 0))
+  where
+    go : (eqb (functionOf t i) 0 ≡ true) ⊎ (eqb (functionOf t i) 0 ≡ false) → copiedArity t i ≤ arityOf t i
+    go (inl e) = rw (e, copiedArity) (omega arith)
+    go (inr e) = rw (e, copiedArity) (omega arith)
+
+-- a term is copied: its arguments, and then its row
+module _ {n : ℕ} {t : List ℕ} (o : Ordered n t) (i : ℕ) (h : i < n) (ts : List (List ℕ)) where
+  copyTerm-constant : (k : ℕ) → eqb (getD (getD (rows 10 n t) i []) 0 0) 0 ≡ true → copyTerm k (rows 10 n t) i ts ≡ ts ++ (constantRow ∷ [])
+  unfolding copyTerm
+  copyTerm-constant zero q = refl
+  copyTerm-constant (suc k) q = rw (q, copyTerm)
+
+  abbrev made : ℕ → ℕ → Copies → List (List ℕ)
+  made f a c = c .terms ++ (padded 10 (f ∷ a ∷ c .numbers) ∷ [])
+
+  copyTerm-open : (k : ℕ) → eqb (getD (getD (rows 10 n t) i []) 0 0) 0 ≡ false
+      → copyTerm (suc k) (rows 10 n t) i ts
+      ≡ made (getD (getD (rows 10 n t) i []) 0 0) (getD (getD (rows 10 n t) i []) 1 0) (copyAll (copyTerm k (rows 10 n t)) (argumentsIn (getD (rows 10 n t) i [])) (record { numbers = []; terms = ts }))
+  unfolding copyTerm
+  copyTerm-open k q = rw (q, copyTerm)
+
+  copyTerm-skolem : eqb (functionOf t i) 0 ≡ false
+      → copyTerm n (rows 10 n t) i ts
+      ≡ made (functionOf t i) (arityOf t i) (copyAll (copyTerm n (rows 10 n t)) (argumentsOf t i) (record { numbers = []; terms = ts }))
+  copyTerm-skolem e =
+      let one : 1 < 10 = omega arith in
+      let p = row-function n t i h in
+      let q = getD-cell n t i 1 h one in
+      let r = argumentsIn-row o i h in
+      copyTerm-same o n (suc n) i h h (omega arith) ts
+      ∙ copyTerm-open n (ap (λ (f : ℕ). eqb f 0) p ∙ e)
+      ∙ (λ k. made (p k) (q k) (copyAll (copyTerm n (rows 10 n t)) (r k) (record { numbers = []; terms = ts })))
+
+  pub copyTerm-is : copyTerm n (rows 10 n t) i ts ≡ made (functionOf t i) (copiedArity t i) (upTo n t i ts (copiedArity t i))
+  unfolding upTo copiedArity copyAll padded
+  copyTerm-is = go (case (eqb (functionOf t i) 0))
+    where
+      go : (eqb (functionOf t i) 0 ≡ true) ⊎ (eqb (functionOf t i) 0 ≡ false)
+          → copyTerm n (rows 10 n t) i ts ≡ made (functionOf t i) (copiedArity t i) (upTo n t i ts (copiedArity t i))
+      go (inl e) =
+          copyTerm-constant n (ap (λ (f : ℕ). eqb f 0) (row-function n t i h) ∙ e) ∙ rw (e, copiedArity) (rw (eqb-true (functionOf t i) 0 e) refl)
+      go (inr e) =
+          copyTerm-skolem e
+          ∙ rw (e, copiedArity)
+          (ap
+          (λ (xs : List ℕ). made (functionOf t i) (arityOf t i) (copyAll (copyTerm n (rows 10 n t)) xs (record { numbers = []; terms = ts })))
+          (sym (take-all (arityOf t i) (argumentsOf t i) (let l = arguments-length t i in omega arith))))
+
+-- rows written one after the other
+
+pub padded-more : (w : ℕ) (xs : List ℕ) (v : ℕ) → length xs < w → set (padded w xs) (length xs) v ≡ padded w (xs ++ (v ∷ []))
+unfolding padded
+padded-more w xs v h =
+    let e : w - length xs ≡ suc (w - suc (length xs)) = omega arith in
+    let l : length (xs ++ (v ∷ [])) ≡ suc (length xs) = length-append xs (v ∷ []) ∙ add-one (length xs) in
+    ap (λ (k : ℕ). set (xs ++ replicate k 0) (length xs) v) e
+    ∙ set-append-seam xs 0 (replicate (w - suc (length xs)) 0) v
+    ∙ sym (append-assoc xs (v ∷ []) (replicate (w - suc (length xs)) 0))
+    ∙ ap (λ (k : ℕ). (xs ++ (v ∷ [])) ++ replicate (w - k) 0) (sym l)
+
+pub padded-length : (w : ℕ) (xs : List ℕ) → length xs ≤ w → length (padded w xs) ≡ w
+unfolding padded
+padded-length w xs h = rw (length-append, lib.ListN.length-replicate) (omega arith)
+
+pub rows-put : (w m : ℕ) (r t : List ℕ) → length r ≡ w → suc m * w ≤ length t → rows w (m + 1) (written r (m * w) t) ≡ rows w m t ++ (r ∷ [])
+rows-put w m r t e h =
+    rw (add-one m) (subst (λ (k : ℕ). rows k (suc m) (written r (m * k) t) ≡ rows k m t ++ (r ∷ [])) e (rows-written m r t (rw e h)))
+
+-- the first j arguments are copied: what the table holds, and the row so far
+pub record Copied (n : ℕ) (t : List ℕ) (i : ℕ) (ts : List (List ℕ)) (table line : List ℕ) (m j : ℕ) : Type 0 where
+  pub within : j ≤ copiedArity t i
+  pub held : rows 10 m table ≡ upTo n t i ts j .terms
+  pub row : line ≡ padded 10 (functionOf t i ∷ copiedArity t i ∷ upTo n t i ts j .numbers)
+
+pub copied-none : (n : ℕ) (t : List ℕ) (i m : ℕ) (table : List ℕ)
+    → Copied n t i (rows 10 m table) table (set (set (replicate 10 0) 0 (functionOf t i)) 1 (copiedArity t i)) m 0
+unfolding padded
+copied-none n t i m table =
+    record {
+      within = omega arith;
+      held = ap (λ (c : Copies). c .terms) (sym (upTo-none n t i (rows 10 m table)));
+      row = ap (λ (c : Copies). padded 10 (functionOf t i ∷ copiedArity t i ∷ c .numbers)) (sym (upTo-none n t i (rows 10 m table)));
+    }
+
+module _ {n : ℕ} {t : List ℕ} (o : Ordered n t) (i : ℕ) (h : i < n) {ts : List (List ℕ)} {table line : List ℕ} {m j : ℕ} (c : Copied n t i ts table line m j) where
+  copied-arity : j ≤ 8
+  copied-arity = let a = o .arity i h in let b = copiedArity-le t i in let w = c .within in omega arith
+
+  copied-numbers : length (upTo n t i ts j .numbers) ≡ j
+  copied-numbers = let b = copiedArity-le t i in let w = c .within in upTo-numbers n t i ts j (omega arith)
+
+  pub copied-length : length line ≡ 10
+  copied-length =
+      let a = copied-arity in
+      let b = copied-numbers in
+      ap length (c .row) ∙ padded-length 10 (functionOf t i ∷ copiedArity t i ∷ upTo n t i ts j .numbers) (omega arith)
+
+  pub copied-count : m ≡ length (upTo n t i ts j .terms)
+  copied-count = sym (rows-length 10 m table) ∙ ap length (c .held)
+
+  pub copied-more : (table′ : List ℕ) (m′ : ℕ) → j < copiedArity t i
+      → rows 10 m′ table′ ≡ copyTerm n (rows 10 n t) (argumentOf t i j) (rows 10 m table)
+      → Copied n t i ts table′ (set line (2 + j) (m′ - 1)) m′ (j + 1)
+  copied-more table′ m′ l e =
+      let b = copiedArity-le t i in
+      let us : List (List ℕ) = copyTerm n (rows 10 n t) (argumentOf t i j) (upTo n t i ts j .terms) in
+      let more = upTo-more n t i ts j (omega arith) in
+      let e′ : rows 10 m′ table′ ≡ us = e ∙ ap (copyTerm n (rows 10 n t) (argumentOf t i j)) (c .held) in
+      let count : m′ ≡ length us = sym (rows-length 10 m′ table′) ∙ ap length e′ in
+      let xs : List ℕ = functionOf t i ∷ copiedArity t i ∷ upTo n t i ts j .numbers in
+      let a = o .arity i h in
+      let k = copied-numbers in
+      let size : length xs ≡ 2 + j = omega arith in
+      record {
+        within = omega arith;
+        held = e′ ∙ sym (ap (λ (d : Copies). d .terms) more);
+        row =
+            ap (λ (r : List ℕ). set r (2 + j) (m′ - 1)) (c .row)
+            ∙ ap (λ (p : ℕ). set (padded 10 xs) p (m′ - 1)) (sym size)
+            ∙ padded-more 10 xs (m′ - 1) (omega arith)
+            ∙ ap (λ (p : ℕ). padded 10 (xs ++ ((p - 1) ∷ []))) count
+            ∙ sym (ap (λ (d : Copies). padded 10 (functionOf t i ∷ copiedArity t i ∷ d .numbers)) more);
+      }
+
+  pub copied-below : j < copiedArity t i
+      → length (copyTerm n (rows 10 n t) (argumentOf t i j) (rows 10 m table)) < length (copyTerm n (rows 10 n t) i ts)
+  copied-below k =
+      let b = copiedArity-le t i in
+      let more = upTo-more n t i ts j (omega arith) in
+      let g = upTo-grows n t i ts (j + 1) (copiedArity t i) (omega arith) in
+      let z = length-append (upTo n t i ts (copiedArity t i) .terms) (padded 10 (functionOf t i ∷ copiedArity t i ∷ upTo n t i ts (copiedArity t i) .numbers) ∷ []) in
+      rw (copyTerm-is o i h ts, c .held) (omega (arith, ap (λ (d : Copies). length (d .terms)) more))
+
+  -- an argument has room, and a number that a cell holds
+  pub copied-room : {space : List ℕ} → Room 10 space (copyTerm n (rows 10 n t) i ts) → j < copiedArity t i
+      → Room 10 space (copyTerm n (rows 10 n t) (argumentOf t i j) (rows 10 m table))
+  copied-room r k =
+      let b = copied-below k in
+      let f = r .fits in
+      let w = r .few in
+      record { fits = omega arith; few = omega arith }
+
+  pub copied-number : {space : List ℕ} → Room 10 space (copyTerm n (rows 10 n t) i ts) → j < copiedArity t i → (m′ : ℕ) (table′ : List ℕ)
+      → rows 10 m′ table′ ≡ copyTerm n (rows 10 n t) (argumentOf t i j) (rows 10 m table) → (1 ≤ m′) × (m′ < 65536)
+  copied-number r k m′ table′ e =
+      let b = copied-below k in
+      let w = r .few in
+      let g = copyTerm-grows n (rows 10 n t) (argumentOf t i j) (rows 10 m table) in
+      let q : m′ ≡ length (copyTerm n (rows 10 n t) (argumentOf t i j) (rows 10 m table)) = sym (rows-length 10 m′ table′) ∙ ap length e in
+      (omega arith, omega arith)
+
+  pub copied-all : j ≡ copiedArity t i → rows 10 m table ++ (line ∷ []) ≡ copyTerm n (rows 10 n t) i ts
+  copied-all e =
+      (λ k. c .held k ++ (c .row k ∷ []))
+      ∙ ap (λ (p : ℕ). upTo n t i ts p .terms ++ (padded 10 (functionOf t i ∷ copiedArity t i ∷ upTo n t i ts p .numbers) ∷ [])) e
+      ∙ sym (copyTerm-is o i h ts)
+
+  pub copied-last : {space : List ℕ} → Room 10 space (copyTerm n (rows 10 n t) i ts) → j ≡ copiedArity t i → (suc m * 10 ≤ length space) × (m < 65536)
+  copied-last r e =
+      let f = r .fits in
+      let w = r .few in
+      let q : length (copyTerm n (rows 10 n t) i ts) ≡ suc m =
+      ap length (sym (copied-all e)) ∙ length-append (rows 10 m table) (line ∷ []) ∙ ap (λ (k : ℕ). k + 1) (rows-length 10 m table) ∙ add-one m in
+      (omega arith, omega arith)
