@@ -15,14 +15,12 @@ use Rattle.model.specs.Lists.{numbersFrom, padded}
 use Rattle.laws.proofs.Bools.{case}
 use Rattle.terms.specs.Rows.{rows, written}
 use Rattle.terms.specs.Terms.{Ordered, functionOf, arityOf, argumentOf, argumentsOf}
-use Rattle.terms.proofs.Tables.{rows-written, rows-length}
+use Rattle.terms.proofs.Tables.{rows-length}
+use Rattle.outputs.proofs.Rows.{padded-more, padded-length}
 use Rattle.terms.proofs.Terms.{argumentsOf-before}
 use Rattle.blocking.specs.Copies.{constantRow, argumentsIn, Copies, copyAll, copyTerm}
 use Rattle.blocking.specs.Copying.{copiedArity}
-use Rattle.blocking.specs.Room.{Room}
-
-pub room-same : {w : ℕ} {a : List ℕ} {rs : List (List ℕ)} (b : List ℕ) → length b ≡ length a → Room w a rs → Room w b rs
-room-same b e r = let f = r .fits in let w = r .few in record { fits = omega arith; few = omega arith }
+use Rattle.outputs.specs.Room.{Room}
 
 -- rows as a list, row by row
 
@@ -233,26 +231,6 @@ module _ {n : ℕ} {t : List ℕ} (o : Ordered n t) (i : ℕ) (h : i < n) (ts : 
           (ap
           (λ (xs : List ℕ). made (functionOf t i) (arityOf t i) (copyAll (copyTerm n (rows 10 n t)) xs (record { numbers = []; terms = ts })))
           (sym (take-all (arityOf t i) (argumentsOf t i) (let l = arguments-length t i in omega arith))))
-
--- rows written one after the other
-
-pub padded-more : (w : ℕ) (xs : List ℕ) (v : ℕ) → length xs < w → set (padded w xs) (length xs) v ≡ padded w (xs ++ (v ∷ []))
-unfolding padded
-padded-more w xs v h =
-    let e : w - length xs ≡ suc (w - suc (length xs)) = omega arith in
-    let l : length (xs ++ (v ∷ [])) ≡ suc (length xs) = length-append xs (v ∷ []) ∙ add-one (length xs) in
-    ap (λ (k : ℕ). set (xs ++ replicate k 0) (length xs) v) e
-    ∙ set-append-seam xs 0 (replicate (w - suc (length xs)) 0) v
-    ∙ sym (append-assoc xs (v ∷ []) (replicate (w - suc (length xs)) 0))
-    ∙ ap (λ (k : ℕ). (xs ++ (v ∷ [])) ++ replicate (w - k) 0) (sym l)
-
-pub padded-length : (w : ℕ) (xs : List ℕ) → length xs ≤ w → length (padded w xs) ≡ w
-unfolding padded
-padded-length w xs h = rw (length-append, lib.ListN.length-replicate) (omega arith)
-
-pub rows-put : (w m : ℕ) (r t : List ℕ) → length r ≡ w → suc m * w ≤ length t → rows w (m + 1) (written r (m * w) t) ≡ rows w m t ++ (r ∷ [])
-rows-put w m r t e h =
-    rw (add-one m) (subst (λ (k : ℕ). rows k (suc m) (written r (m * k) t) ≡ rows k m t ++ (r ∷ [])) e (rows-written m r t (rw e h)))
 
 -- the first j arguments are copied: what the table holds, and the row so far
 pub record Copied (n : ℕ) (t : List ℕ) (i : ℕ) (ts : List (List ℕ)) (table line : List ℕ) (m j : ℕ) : Type 0 where

@@ -1,4 +1,3 @@
-pub mod Room
 pub mod Copies
 pub mod Copying
 pub mod Origins
