@@ -1,0 +1,5 @@
+pub mod Lists
+pub mod Sets
+pub mod Parsing
+pub mod Many
+pub mod Rows

@@ -1,0 +1,14 @@
+-- Sets of variables as numbers: variable v is the binary digit 2 ^ v. Assumes nothing.
+use mathlib.Core.List.{List, [], _∷_}
+use mathlib.Core.Bool.{Bool}
+use Prim.Native.Nat.{ℕ, _^_, _/_, _%_}
+use lib.Bits.{bitOr}
+use lib.Dec.{eqb}
+
+unfoldable pub setOf : List ℕ → ℕ
+setOf [] = 0
+setOf (v ∷ vs) = bitOr (2 ^ v) (setOf vs)
+
+-- v is in the set
+unfoldable pub has : ℕ → ℕ → Bool
+has set v = eqb (set / 2 ^ v % 2) 1

@@ -1,0 +1,116 @@
+// The parsers of model's `Format`, one function each. Each answers the step of the definition's answer, and writes what it read into a row
+// of zeros that its caller lends. Contracts: `stepOf` of specs/Step.antt.
+use crate::Step;
+ghost use mathlib.Core.Path.{_≡_};
+ghost use mathlib.Core.List.{List};
+ghost use Prim.Native.Nat.{ℕ, _+_, _-_, _≤_, _<_};
+ghost use lib.ListN.{length};
+ghost use Rattle.model.specs.Lists.{padded, collect};
+ghost use Rattle.model.specs.Format.{many};
+ghost use Rattle.model.specs.Form.{atomRow, group, ruleRow};
+ghost use Rattle.model.specs.Format as format;
+ghost use Rattle.ruleset.specs.Step.{stepOf, value, zeros, Filled, Arities, atomSet, atomsSet};
+ghost use Rattle.ruleset.specs.Sets.{setOf};
+
+// A byte from low to high at i.
+pub fn byte(bytes: &[u8], low: u8, high: u8, refusal: u8, i: usize) -> Step
+    ensures { λ r. ⌜ r ≡ stepOf value (format.byte (now (bytes .entry)) low high refusal i) ⌝ }
+{
+    if bytes.len() <= i {
+        return Step::Bad(10, bytes.len());
+    }
+    let b = bytes[i];
+    if b < low {
+        return Step::Bad(refusal, i);
+    }
+    if high < b {
+        return Step::Bad(refusal, i);
+    }
+    Step::Good(b, i + 1)
+}
+
+// A variable of an atom: C-16 widens this reading alone.
+pub fn variable(bytes: &[u8], i: usize) -> Step
+    ensures { λ r. ⌜ r ≡ stepOf value (format.variable (now (bytes .entry)) i) ⌝ }
+{
+    byte(bytes, 0, 7, 7, i)
+}
+
+// n variables into the front of a row of zeros; the value is their set.
+fn variables(bytes: &[u8], n: usize, i: usize, row: &mut [u16]) -> Step
+    requires { ⌜ (n ≤ length (now row)) × (now row ≡ zeros (length (now row))) ⌝ }
+    ensures { λ r. ⌜ Filled setOf (padded (length (now (row .entry)))) (many n (format.variable (now (bytes .entry))) i) r (now (row .exit)) ⌝ }
+{
+    let mut set: u8 = 0;
+    let mut at = i;
+    let mut k = 0;
+    while k < n {
+        match variable(bytes, at) {
+            Step::Good(v, next) => {
+                row[k] = v as u16;
+                set = set | 1 << v;
+                at = next;
+                k += 1;
+            }
+            Step::Bad(refusal, place) => {
+                return Step::Bad(refusal, place);
+            }
+        }
+    }
+    Step::Good(set, at)
+}
+
+// An atom into a row of five zeros; the value is the set of its variables.
+fn atom(bytes: &[u8], arities: &[u16], i: usize, row: &mut [u16]) -> Step
+    requires { ⌜ Arities (now arities) ⌝ }
+    requires { ⌜ now row ≡ zeros 5 ⌝ }
+    ensures { λ r. ⌜ Filled atomSet atomRow (format.atom (now (bytes .entry)) (now (arities .entry)) i) r (now (row .exit)) ⌝ }
+{
+    let head = byte(bytes, 0, (arities.len() - 1) as u8, 7, i);
+    let Step::Good(p, j) = head else {
+        return head;
+    };
+    row[0] = p as u16;
+    let n = arities[p as usize] as usize;
+    variables(bytes, n, j, &mut row[1..])
+}
+
+// n atoms into the front of 20 zeros; the value is the set of their variables.
+fn many_atoms(bytes: &[u8], arities: &[u16], n: usize, i: usize, rows: &mut [u16]) -> Step
+    requires { ⌜ Arities (now arities) ⌝ }
+    requires { ⌜ (n ≤ 4) × (now rows ≡ zeros 20) ⌝ }
+    ensures { λ r. ⌜ Filled atomsSet (λ as'. padded 20 (collect atomRow as')) (many n (format.atom (now (bytes .entry)) (now (arities .entry))) i) r (now (rows .exit)) ⌝ }
+{
+    let mut set: u8 = 0;
+    let mut at = i;
+    let mut from = 0;
+    let mut k = 0;
+    while k < n {
+        match atom(bytes, arities, at, &mut rows[from..from + 5]) {
+            Step::Good(variables, next) => {
+                set = set | variables;
+                at = next;
+                from += 5;
+                k += 1;
+            }
+            Step::Bad(refusal, place) => {
+                return Step::Bad(refusal, place);
+            }
+        }
+    }
+    Step::Good(set, at)
+}
+
+// A count of one to four, and so many atoms, into a row of 21 zeros; the value is the set of their variables.
+fn atoms(bytes: &[u8], arities: &[u16], i: usize, row: &mut [u16]) -> Step
+    requires { ⌜ Arities (now arities) ⌝ }
+    requires { ⌜ now row ≡ zeros 21 ⌝ }
+    ensures { λ r. ⌜ Filled atomsSet group (format.atoms (now (bytes .entry)) (now (arities .entry)) i) r (now (row .exit)) ⌝ }
+{
+    let count = byte(bytes, 1, 4, 6, i);
+    let Step::Good(n, j) = count else {
+        return count;
+    };
+    row[0] = n as u16;
+    many_atoms(bytes, arities, n as usize, j, &mut row[1..])
+}
