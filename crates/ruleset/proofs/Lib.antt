@@ -3,3 +3,4 @@ pub mod Sets
 pub mod Parsing
 pub mod Many
 pub mod Rows
+pub mod Heads

@@ -1,7 +1,7 @@
 -- Sets of variables as numbers: variable v is the binary digit 2 ^ v. Assumes nothing.
 use mathlib.Core.List.{List, [], _∷_}
 use mathlib.Core.Bool.{Bool}
-use Prim.Native.Nat.{ℕ, _^_, _/_, _%_}
+use Prim.Native.Nat.{ℕ, zero, suc, _^_, _/_, _%_}
 use lib.Bits.{bitOr}
 use lib.Dec.{eqb}
 
@@ -11,4 +11,5 @@ setOf (v ∷ vs) = bitOr (2 ^ v) (setOf vs)
 
 -- v is in the set
 unfoldable pub has : ℕ → ℕ → Bool
-has set v = eqb (set / 2 ^ v % 2) 1
+has set zero = eqb (set % 2) 1
+has set (suc v) = has (set / 2) v

@@ -6,11 +6,13 @@ ghost use mathlib.Core.List.{List};
 ghost use Prim.Native.Nat.{ℕ, _+_, _-_, _≤_, _<_};
 ghost use lib.ListN.{length};
 ghost use Rattle.model.specs.Lists.{padded, collect};
+ghost use Rattle.model.specs.Rules.{Atom};
 ghost use Rattle.model.specs.Format.{many};
 ghost use Rattle.model.specs.Form.{atomRow, group, ruleRow};
 ghost use Rattle.model.specs.Format as format;
 ghost use Rattle.ruleset.specs.Step.{stepOf, value, zeros, Filled, Arities, atomSet, atomsSet};
 ghost use Rattle.ruleset.specs.Sets.{setOf};
+ghost use Rattle.ruleset.specs.Heads.{lacking, faultOf, fault as faulty};
 
 // A byte from low to high at i.
 pub fn byte(bytes: &[u8], low: u8, high: u8, refusal: u8, i: usize) -> Step
@@ -113,4 +115,65 @@ fn atoms(bytes: &[u8], arities: &[u16], i: usize, row: &mut [u16]) -> Step
     };
     row[0] = n as u16;
     many_atoms(bytes, arities, n as usize, j, &mut row[1..])
+}
+
+// 1 for the empty set, else 0.
+fn lacks(set: u8) -> u8
+    ensures { λ r. ⌜ r ≡ lacking set ⌝ }
+{
+    if set == 0 {
+        return 1;
+    }
+    0
+}
+
+// 8 before 9, by the variables that stand in two disjuncts and the detached disjuncts.
+fn fault(again: u8, apart: u8) -> u8
+    ensures { λ r. ⌜ r ≡ faultOf again apart ⌝ }
+{
+    if again != 0 {
+        return 8;
+    }
+    if apart != 0 {
+        return 9;
+    }
+    0
+}
+
+// n disjuncts into the front of 84 zeros; the value is the fault of the rule that has them, by the set of its body's variables.
+fn many_disjuncts(
+    bytes: &[u8],
+    arities: &[u16],
+    body: u8,
+    n: usize,
+    i: usize,
+    rows: &mut [u16],
+) -> Step
+    requires { ⌜ Arities (now arities) ⌝ }
+    requires { ⌜ (n ≤ 4) × (now rows ≡ zeros 84) ⌝ }
+    ensures { λ r. ⌜ ((b : List Atom) → body ≡ atomsSet b → Filled (λ ds. faulty (record { body = b; head = ds })) (λ ds. padded 84 (collect group ds)) (many n (format.atoms (now (bytes .entry)) (now (arities .entry))) i) r (now (rows .exit))) ⌝ }
+{
+    let mut seen: u8 = 0;
+    let mut again: u8 = 0;
+    let mut apart: u8 = 0;
+    let mut at = i;
+    let mut from = 0;
+    let mut k = 0;
+    while k < n {
+        match atoms(bytes, arities, at, &mut rows[from..from + 21]) {
+            Step::Good(set, next) => {
+                let new = set & !body;
+                again = again | seen & new;
+                seen = seen | new;
+                apart = apart | lacks(set & body);
+                at = next;
+                from += 21;
+                k += 1;
+            }
+            Step::Bad(refusal, place) => {
+                return Step::Bad(refusal, place);
+            }
+        }
+    }
+    Step::Good(fault(again, apart), at)
 }
