@@ -227,7 +227,7 @@ module _ (r : Rule) (body : ℕ) (b : body ≡ atomsSet (r .body)) (small : body
 
 -- the fault of the whole rule depends on the rule's body and the disjuncts alone
 
-abbrev of : List Atom → List (List Atom) → Rule
+abbrev pub of : List Atom → List (List Atom) → Rule
 of b ds = record { body = b; head = ds }
 
 repeated-of : (b : List Atom) (hs hs′ ds : List (List Atom)) → repeated (of b hs) ds ≡ repeated (of b hs′) ds

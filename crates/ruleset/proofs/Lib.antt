@@ -4,3 +4,4 @@ pub mod Parsing
 pub mod Many
 pub mod Rows
 pub mod Heads
+pub mod RuleRow

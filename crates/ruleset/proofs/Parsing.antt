@@ -113,3 +113,13 @@ maps f keepA keep rowA row (bad n p) r leftA left k s h = record { answer = h .a
 pub refill : {A : Type 0} (keep : A → ℕ) (rowA row : A → List ℕ) (parsed : Parsed A) (r : Step) (leftA left : List ℕ)
     → ((a : A) (j : ℕ) → parsed ≡ good a j → leftA ≡ rowA a → left ≡ row a) → Filled keep rowA parsed r leftA → Filled keep row parsed r left
 refill keep rowA row parsed r leftA left s h = record { answer = h .answer; stored = λ a j e. s a j e (h .stored a j e) }
+
+pub filled-good : {A : Type 0} (keep : A → ℕ) (row : A → List ℕ) (parsed : Parsed A) (a : A) (v j : ℕ) (left : List ℕ) → parsed ≡ good a j → v ≡ keep a → left ≡ row a
+    → Filled keep row parsed (Good v j) left
+unfolding stepOf
+filled-good keep row parsed a v j left e k l =
+    record { answer = rw (e, k); stored = λ b i f. let g : a ≡ b = cc in l ∙ ap row g }
+
+pub filled-bad : {A : Type 0} (keep : A → ℕ) (row : A → List ℕ) (parsed : Parsed A) (n p : ℕ) (left : List ℕ) → parsed ≡ bad n p → Filled keep row parsed (Bad n p) left
+unfolding stepOf
+filled-bad keep row parsed n p left e = record { answer = rw e; stored = λ a j f. bad-is-not-good parsed n p a j e f }

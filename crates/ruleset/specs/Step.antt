@@ -17,6 +17,10 @@ stepOf keep (bad n p) = Bad n p
 abbrev pub value : ℕ → ℕ
 value n = n
 
+-- nothing is kept
+abbrev pub none : {A : Type 0} → A → ℕ
+none a = 0
+
 abbrev pub atomSet : Atom → ℕ
 atomSet a = setOf (a .variables)
 

@@ -10,7 +10,7 @@ ghost use Rattle.model.specs.Rules.{Atom};
 ghost use Rattle.model.specs.Format.{many};
 ghost use Rattle.model.specs.Form.{atomRow, group, ruleRow};
 ghost use Rattle.model.specs.Format as format;
-ghost use Rattle.ruleset.specs.Step.{stepOf, value, zeros, Filled, Arities, atomSet, atomsSet};
+ghost use Rattle.ruleset.specs.Step.{stepOf, value, none, zeros, Filled, Arities, atomSet, atomsSet};
 ghost use Rattle.ruleset.specs.Sets.{setOf};
 ghost use Rattle.ruleset.specs.Heads.{lacking, faultOf, fault as faulty};
 
@@ -176,4 +176,29 @@ fn many_disjuncts(
         }
     }
     Step::Good(fault(again, apart), at)
+}
+
+// A rule into a row of 106 zeros, 8 and then 9 tested after its last byte.
+fn rule(bytes: &[u8], arities: &[u16], i: usize, row: &mut [u16]) -> Step
+    requires { ⌜ Arities (now arities) ⌝ }
+    requires { ⌜ now row ≡ zeros 106 ⌝ }
+    ensures { λ r. ⌜ Filled none ruleRow (format.rule (now (bytes .entry)) (now (arities .entry)) i) r (now (row .exit)) ⌝ }
+{
+    let body = atoms(bytes, arities, i, &mut row[1..22]);
+    let Step::Good(set, j) = body else {
+        return body;
+    };
+    let count = byte(bytes, 1, 4, 6, j);
+    let Step::Good(n, k) = count else {
+        return count;
+    };
+    row[0] = n as u16;
+    let head = many_disjuncts(bytes, arities, set, n as usize, k, &mut row[22..]);
+    let Step::Good(refusal, end) = head else {
+        return head;
+    };
+    if refusal != 0 {
+        return Step::Bad(refusal, i);
+    }
+    Step::Good(0, end)
 }
