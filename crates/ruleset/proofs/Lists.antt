@@ -3,8 +3,9 @@ use mathlib.Core.Path.{_≡_, refl, sym, ap, _∙_}
 use mathlib.Core.List.{List, [], _∷_, _++_, append-nil}
 use Prim.Native.Nat.{ℕ, zero, suc, _+_, _-_, _≤_, _<_}
 use native.Mathlib.Omega.{arith}
-use lib.ListN.{length, take, drop, set, replicate, length-replicate, length-set}
-use lib.Seq.{set-split, drop-drop}
+use native.Mathlib.Numerals.{add-one}
+use lib.ListN.{length, getD, take, drop, set, replicate, length-replicate, length-set}
+use lib.Seq.{set-split, drop-drop, drop-cons, take-suc, take-length, append-snoc, set-at, length-take-le}
 use borrow.Rule.Slice.PartMut.{same-len-mid}
 use Rattle.model.specs.Lists.{collect, padded}
 use Rattle.ruleset.specs.Step.{zeros}
@@ -83,3 +84,15 @@ module _ (m : ℕ) (row : List ℕ) (v : ℕ) (z : row ≡ zeros (suc m)) where
 pub headed-length : (row : List ℕ) (v : ℕ) (left : List ℕ) → length left ≡ length (take (length (set row 0 v) - 1) (drop 1 (set row 0 v)))
     → length (take 1 (set row 0 v) ++ (left ++ drop (length (set row 0 v) - 1) (drop 1 (set row 0 v)))) ≡ length row
 headed-length row v left e = same-len-mid 1 (length (set row 0 v) - 1) (set row 0 v) left e ∙ length-set row 0 v
+
+-- the front of a list, copied number by number
+pub copy-more : (from free to : List ℕ) (k : ℕ) → k < length from → k < length free → to ≡ take k from ++ drop k free
+    → set to k (getD from k 0) ≡ take (k + 1) from ++ drop (k + 1) free
+copy-more from free to k h l e =
+    let n : length (take k from) ≡ k = length-take-le k from (omega arith) in
+    rw (e, drop-cons free k 0 l, set-at (take k from) (getD free k 0) (drop (suc k) free) (getD from k 0) k n, add-one, take-suc from k 0 h, append-snoc)
+
+pub copied : (from free to : List ℕ) (k : ℕ) → k ≤ length from → length from ≤ k → to ≡ take k from ++ drop k free → to ≡ from ++ drop (length from) free
+copied from free to k h i e =
+    let n : k ≡ length from = omega arith in
+    rw n at e ∙ ap (λ (xs : List ℕ). xs ++ drop (length from) free) (take-length from)

@@ -105,6 +105,10 @@ module _ {A S : Type 0} (p : ℕ → Parsed A) (Kept : List A → S → Type 0) 
         let b : many n p i ≡ bad m q = refused m q h e in
         record { answer = rw b; stored = λ as' j g. bad-is-not-good (many n p i) m q as' j b g }
 
+-- nothing is kept
+abbrev pub Anything : {A : Type 0} → List A → ℕ → Type 0
+Anything done s = Unit {0}
+
 -- numbers, one to a place
 
 module _ {S : Type 0} (p : ℕ → Parsed ℕ) (Kept : List ℕ → S → Type 0) (n i : ℕ) (free : List ℕ) (k at : ℕ) (s : S) (rows : List ℕ) (now : Progress p Kept single n i free k at k s rows) where

@@ -10,12 +10,13 @@ use Rattle.model.specs.Lists.{padded, collect}
 use Rattle.model.specs.Rules.{Atom, Rule}
 use Rattle.model.specs.Format.{Parsed, good, bad, andThen, many, byte, atoms, rule}
 use Rattle.model.specs.Form.{group, ruleRow}
-use Rattle.ruleset.specs.Step.{zeros, Filled, none}
+use Rattle.ruleset.specs.Step.{zeros, Filled, none, parsedRules, rulesRow}
 use Rattle.ruleset.specs.Heads.{fault}
 use Rattle.ruleset.specs.declared.Step.{Step}
 use Rattle.ruleset.specs.declared.Step.the-variants.{Good, Bad}
 use Rattle.ruleset.proofs.Lists.{zeros-suc, length-zeros, zeros-length, drop-zeros, take-zeros, padded-zeros}
 use Rattle.ruleset.proofs.Parsing.{continues, refuses, filled-good, filled-bad}
+use Rattle.ruleset.proofs.Rows.{counted-filled}
 use Rattle.ruleset.proofs.Heads.{of, sound-good, sound-bad}
 
 -- the lists that the row goes through: the body is filled, the count is set, the disjuncts are filled
@@ -89,3 +90,10 @@ module _ (bs arities : List ℕ) (i j n k e : ℕ) (b : List Atom) (ds : List (L
       (continues _ _ _ _ _ _ n k q
       (continues _ _ _ _ _ _ ds e s
       (filled-bad none ruleRow _ w i left (sound-bad (of b ds) i e (λ g. h (sym f ∙ g)) ∙ ap (λ (x : ℕ). bad x i) f))))
+
+-- the count of the rules, and the rules
+pub rules-filled : (bs arities : List ℕ) (i n j : ℕ) (place left : List ℕ) (r : Step) → byte bs 0 64 5 i ≡ good n j → place ≡ zeros 6785
+    → Filled none (λ rs. padded 6784 (collect ruleRow rs)) (many n (rule bs arities) j) r left
+    → Filled none rulesRow (parsedRules bs arities i) r (take 1 (set place 0 n) ++ (left ++ drop (length (set place 0 n) - 1) (drop 1 (set place 0 n))))
+unfolding parsedRules rulesRow
+rules-filled bs arities i n j place left r e z h = continues _ _ _ _ _ _ n j e (counted-filled none ruleRow (rule bs arities) 6784 n j place left r z h)

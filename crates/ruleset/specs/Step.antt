@@ -1,10 +1,12 @@
 -- What the parsers of the code answer and leave in the row that they fill. Assumes nothing.
 use mathlib.Core.Path.{_≡_}
-use mathlib.Core.List.{List}
+use mathlib.Core.List.{List, _∷_}
 use Prim.Native.Nat.{ℕ, _≤_}
 use lib.ListN.{length, getD, replicate}
-use Rattle.model.specs.Rules.{Atom, variablesOf}
-use Rattle.model.specs.Format.{Parsed, good, bad}
+use Rattle.model.specs.Lists.{padded, collect}
+use Rattle.model.specs.Rules.{Atom, Rule, variablesOf}
+use Rattle.model.specs.Format.{Parsed, good, bad, andThen, many, byte, rule}
+use Rattle.model.specs.Form.{ruleRow}
 use Rattle.ruleset.specs.Sets.{setOf}
 use Rattle.ruleset.specs.declared.Step.{Step}
 use Rattle.ruleset.specs.declared.Step.the-variants.{Good, Bad}
@@ -26,6 +28,14 @@ atomSet a = setOf (a .variables)
 
 abbrev pub atomsSet : List Atom → ℕ
 atomsSet as' = setOf (variablesOf as')
+
+-- the count of the rules and the rules, as a part of model's `ruleSet` and of its form
+
+unfoldable pub parsedRules : List ℕ → List ℕ → ℕ → Parsed (List Rule)
+parsedRules bs arities i = andThen (byte bs 0 64 5 i) (λ n j. many n (rule bs arities) j)
+
+unfoldable pub rulesRow : List Rule → List ℕ
+rulesRow rs = padded 6785 (length rs ∷ collect ruleRow rs)
 
 unfoldable pub zeros : ℕ → List ℕ
 zeros n = replicate n 0

@@ -2,15 +2,15 @@
 // of zeros that its caller lends. Contracts: `stepOf` of specs/Step.antt.
 use crate::Step;
 ghost use mathlib.Core.Path.{_≡_};
-ghost use mathlib.Core.List.{List};
+ghost use mathlib.Core.List.{List, _++_};
 ghost use Prim.Native.Nat.{ℕ, _+_, _-_, _≤_, _<_};
-ghost use lib.ListN.{length};
+ghost use lib.ListN.{length, drop};
 ghost use Rattle.model.specs.Lists.{padded, collect};
 ghost use Rattle.model.specs.Rules.{Atom};
 ghost use Rattle.model.specs.Format.{many};
 ghost use Rattle.model.specs.Form.{atomRow, group, ruleRow};
 ghost use Rattle.model.specs.Format as format;
-ghost use Rattle.ruleset.specs.Step.{stepOf, value, none, zeros, Filled, Arities, atomSet, atomsSet};
+ghost use Rattle.ruleset.specs.Step.{stepOf, value, none, parsedRules, rulesRow, zeros, Filled, Arities, atomSet, atomsSet};
 ghost use Rattle.ruleset.specs.Sets.{setOf};
 ghost use Rattle.ruleset.specs.Heads.{lacking, faultOf, fault as faulty};
 
@@ -201,4 +201,76 @@ fn rule(bytes: &[u8], arities: &[u16], i: usize, row: &mut [u16]) -> Step
         return Step::Bad(refusal, i);
     }
     Step::Good(0, end)
+}
+
+// n rules into the front of 6784 zeros.
+fn many_rules(bytes: &[u8], arities: &[u16], n: usize, i: usize, rows: &mut [u16]) -> Step
+    requires { ⌜ Arities (now arities) ⌝ }
+    requires { ⌜ (n ≤ 64) × (now rows ≡ zeros 6784) ⌝ }
+    ensures { λ r. ⌜ Filled none (λ rs. padded 6784 (collect ruleRow rs)) (many n (format.rule (now (bytes .entry)) (now (arities .entry))) i) r (now (rows .exit)) ⌝ }
+{
+    let mut at = i;
+    let mut from = 0;
+    let mut k = 0;
+    while k < n {
+        match rule(bytes, arities, at, &mut rows[from..from + 106]) {
+            Step::Good(_, next) => {
+                at = next;
+                from += 106;
+                k += 1;
+            }
+            Step::Bad(refusal, place) => {
+                return Step::Bad(refusal, place);
+            }
+        }
+    }
+    Step::Good(0, at)
+}
+
+// A count of at most 64, and so many rules, into a row of 6785 zeros.
+fn rules(bytes: &[u8], arities: &[u16], i: usize, row: &mut [u16]) -> Step
+    requires { ⌜ Arities (now arities) ⌝ }
+    requires { ⌜ now row ≡ zeros 6785 ⌝ }
+    ensures { λ r. ⌜ Filled none rulesRow (parsedRules (now (bytes .entry)) (now (arities .entry)) i) r (now (row .exit)) ⌝ }
+{
+    let count = byte(bytes, 0, 64, 5, i);
+    let Step::Good(n, j) = count else {
+        return count;
+    };
+    row[0] = n as u16;
+    many_rules(bytes, arities, n as usize, j, &mut row[1..])
+}
+
+// n arities into the front of a row of zeros.
+fn many_arities(bytes: &[u8], n: usize, i: usize, row: &mut [u16]) -> Step
+    requires { ⌜ (n ≤ length (now row)) × (now row ≡ zeros (length (now row))) ⌝ }
+    ensures { λ r. ⌜ Filled none (padded (length (now (row .entry)))) (many n (format.byte (now (bytes .entry)) 1 4 4) i) r (now (row .exit)) ⌝ }
+{
+    let mut at = i;
+    let mut k = 0;
+    while k < n {
+        match byte(bytes, 1, 4, 4, at) {
+            Step::Good(v, next) => {
+                row[k] = v as u16;
+                at = next;
+                k += 1;
+            }
+            Step::Bad(refusal, place) => {
+                return Step::Bad(refusal, place);
+            }
+        }
+    }
+    Step::Good(0, at)
+}
+
+// Numbers over the front of a longer list.
+fn copy(from: &[u16], to: &mut [u16])
+    requires { ⌜ length (now from) ≤ length (now to) ⌝ }
+    ensures { λ _. ⌜ now (to .exit) ≡ now (from .entry) ++ drop (length (now (from .entry))) (now (to .entry)) ⌝ }
+{
+    let mut k = 0;
+    while k < from.len() {
+        to[k] = from[k];
+        k += 1;
+    }
 }
