@@ -5,3 +5,4 @@ pub mod Many
 pub mod Rows
 pub mod Heads
 pub mod RuleRow
+pub mod FormRow

@@ -1,10 +1,10 @@
 -- A loop that parses n values one after the other and puts a row for each into a list of zeros: what holds between its turns.
 -- Assumes nothing.
-use mathlib.Core.Path.{_≡_, refl, sym, ap, _∙_}
+use mathlib.Core.Path.{_≡_, refl, sym, ap, _∙_, subst}
 use mathlib.Core.List.{List, [], _∷_, _++_, append-assoc, append-nil}
 use Prim.Native.Nat.{ℕ, zero, suc, _+_, _-_, _≤_, _<_}
 use native.Mathlib.Omega.{arith}
-use lib.ListN.{length, take, drop, set, length-append, length-drop}
+use lib.ListN.{length, getD, take, drop, set, length-append, length-drop}
 use lib.Seq.{take-at, drop-at, drop-drop, length-take-le}
 use borrow.Rule.Slice.PartMut.{same-len-mid}
 use Rattle.model.specs.Lists.{collect, padded}
@@ -162,3 +162,24 @@ module _ {A S : Type 0} (p : ℕ → Parsed A) (Kept : List A → S → Type 0) 
 
 pub part-length : (o w : ℕ) (rows left : List ℕ) → length left ≡ length (take ((o + w) - o) (drop o rows)) → length (take o rows ++ (left ++ drop ((o + w) - o) (drop o rows))) ≡ length rows
 part-length o w rows left e = same-len-mid o ((o + w) - o) rows left e
+
+-- what holds of every value that the parser gives holds at each place
+pub many-at : {A : Type 0} (P : A → Type 0) (p : ℕ → Parsed A) (d : A) → P d → ((i : ℕ) (a : A) (j : ℕ) → p i ≡ good a j → P a) → (n i : ℕ) (as' : List A) (j : ℕ)
+    → many n p i ≡ good as' j → (k : ℕ) → P (getD as' k d)
+unfolding many andThen
+many-at P p d h f zero i as' j e k = let g : [] ≡ as' = cc in subst (λ xs. P (getD xs k d)) g h
+many-at {A} P p d h f (suc n) i as' j e k = go (p i) (λ a l g. f i a l g) (λ l bs m g. many-at P p d h f n l bs m g) e
+  where
+    at : (a : A) (bs : List A) → P a → ((m : ℕ) → P (getD bs m d)) → (k : ℕ) → P (getD (a ∷ bs) k d)
+    at a bs x y zero = x
+    at a bs x y (suc m) = y m
+
+    last : (a : A) (rest : Parsed (List A)) → P a → ((bs : List A) (l : ℕ) → rest ≡ good bs l → (m : ℕ) → P (getD bs m d))
+        → andThen rest (λ bs k. good (a ∷ bs) k) ≡ good as' j → P (getD as' k d)
+    last a (good bs l) x y g = let s : a ∷ bs ≡ as' = cc in subst (λ xs. P (getD xs k d)) s (at a bs x (y bs l refl) k)
+    last a (bad m q) x y g = bad-is-not-good (bad m q) m q as' j refl g
+
+    go : (first : Parsed A) → ((a : A) (l : ℕ) → first ≡ good a l → P a) → ((l : ℕ) (bs : List A) (m : ℕ) → many n p l ≡ good bs m → (k : ℕ) → P (getD bs k d))
+        → andThen first (λ a l. andThen (many n p l) (λ bs m. good (a ∷ bs) m)) ≡ good as' j → P (getD as' k d)
+    go (good a l) x y g = last a (many n p l) (x a l refl) (y l) g
+    go (bad m q) x y g = bad-is-not-good (bad m q) m q as' j refl g

@@ -123,3 +123,9 @@ filled-good keep row parsed a v j left e k l =
 pub filled-bad : {A : Type 0} (keep : A → ℕ) (row : A → List ℕ) (parsed : Parsed A) (n p : ℕ) (left : List ℕ) → parsed ≡ bad n p → Filled keep row parsed (Bad n p) left
 unfolding stepOf
 filled-bad keep row parsed n p left e = record { answer = rw e; stored = λ a j f. bad-is-not-good parsed n p a j e f }
+
+pub andThen-assoc : {A B C : Type 0} (parsed : Parsed A) (f : A → ℕ → Parsed B) (g : B → ℕ → Parsed C)
+    → andThen (andThen parsed f) g ≡ andThen parsed (λ a i. andThen (f a i) g)
+unfolding andThen
+andThen-assoc (good a i) f g = refl
+andThen-assoc (bad n p) f g = refl

@@ -1,10 +1,12 @@
 -- What the parsers of the code answer and leave in the row that they fill. Assumes nothing.
 use mathlib.Core.Path.{_≡_}
+use mathlib.Core.Bool.{true, false}
 use mathlib.Core.List.{List, _∷_}
 use Prim.Native.Nat.{ℕ, _≤_}
+use lib.Dec.{eqb}
 use lib.ListN.{length, getD, replicate}
 use Rattle.model.specs.Lists.{padded, collect}
-use Rattle.model.specs.Rules.{Atom, Rule, variablesOf}
+use Rattle.model.specs.Rules.{Atom, Rule, RuleSet, variablesOf}
 use Rattle.model.specs.Format.{Parsed, good, bad, andThen, many, byte, rule}
 use Rattle.model.specs.Form.{ruleRow}
 use Rattle.ruleset.specs.Sets.{setOf}
@@ -33,6 +35,11 @@ atomsSet as' = setOf (variablesOf as')
 
 unfoldable pub parsedRules : List ℕ → List ℕ → ℕ → Parsed (List Rule)
 parsedRules bs arities i = andThen (byte bs 0 64 5 i) (λ n j. many n (rule bs arities) j)
+
+unfoldable pub afterArities : List ℕ → List ℕ → ℕ → Parsed RuleSet
+afterArities bs arities i =
+    andThen (parsedRules bs arities i) (λ rs e.
+    elim (eqb e (length bs)) [ true ↦ good (record { arities = arities; rules = rs }) e | false ↦ bad 10 e ])
 
 unfoldable pub rulesRow : List Rule → List ℕ
 rulesRow rs = padded 6785 (length rs ∷ collect ruleRow rs)

@@ -8,9 +8,9 @@ ghost use lib.ListN.{length, drop};
 ghost use Rattle.model.specs.Lists.{padded, collect};
 ghost use Rattle.model.specs.Rules.{Atom};
 ghost use Rattle.model.specs.Format.{many};
-ghost use Rattle.model.specs.Form.{atomRow, group, ruleRow};
+ghost use Rattle.model.specs.Form.{atomRow, group, ruleRow, encoded};
 ghost use Rattle.model.specs.Format as format;
-ghost use Rattle.ruleset.specs.Step.{stepOf, value, none, parsedRules, rulesRow, zeros, Filled, Arities, atomSet, atomsSet};
+ghost use Rattle.ruleset.specs.Step.{stepOf, value, none, parsedRules, rulesRow, afterArities, zeros, Filled, Arities, atomSet, atomsSet};
 ghost use Rattle.ruleset.specs.Sets.{setOf};
 ghost use Rattle.ruleset.specs.Heads.{lacking, faultOf, fault as faulty};
 
@@ -273,4 +273,43 @@ fn copy(from: &[u16], to: &mut [u16])
         to[k] = from[k];
         k += 1;
     }
+}
+
+// What follows the arities, with them, into a form of zeros.
+fn after_arities(bytes: &[u8], arities: &[u16], i: usize, form: &mut [u16]) -> Step
+    requires { ⌜ Arities (now arities) ⌝ }
+    requires { ⌜ now form ≡ zeros 6850 ⌝ }
+    ensures { λ r. ⌜ Filled none encoded (afterArities (now (bytes .entry)) (now (arities .entry)) i) r (now (form .exit)) ⌝ }
+{
+    form[0] = arities.len() as u16;
+    copy(arities, &mut form[6786..]);
+    let read = rules(bytes, arities, i, &mut form[1..6786]);
+    let Step::Good(_, end) = read else {
+        return read;
+    };
+    if end == bytes.len() {
+        return Step::Good(0, end);
+    }
+    Step::Bad(10, end)
+}
+
+// Refusals 3 to 10: what follows the length, into a form of zeros.
+fn rule_set(bytes: &[u8], form: &mut [u16]) -> Step
+    requires { ⌜ now form ≡ zeros 6850 ⌝ }
+    ensures { λ r. ⌜ Filled none encoded (format.ruleSet (now (bytes .entry))) r (now (form .exit)) ⌝ }
+{
+    let version = byte(bytes, 1, 1, 3, 4);
+    let Step::Good(_, i) = version else {
+        return version;
+    };
+    let count = byte(bytes, 1, 64, 4, i);
+    let Step::Good(n, j) = count else {
+        return count;
+    };
+    let mut arities = [0u16; 64];
+    let listed = many_arities(bytes, n as usize, j, &mut arities[..]);
+    let Step::Good(_, k) = listed else {
+        return listed;
+    };
+    after_arities(bytes, &arities[..n as usize], k, form)
 }
