@@ -6,3 +6,4 @@ pub mod Rows
 pub mod Heads
 pub mod RuleRow
 pub mod FormRow
+pub mod Reading

@@ -1,3 +1,4 @@
 pub mod Sets
 pub mod Step
 pub mod Heads
+pub mod Transfer

@@ -7,3 +7,9 @@ pub enum Step {
     Good(u8, usize),
     Bad(u8, usize),
 }
+
+// What `read` and `write` answer: how many bytes were read or written, or a refusal and its place.
+pub enum Transfer {
+    Done(usize),
+    Refusal(u8, usize),
+}

@@ -1,6 +1,7 @@
 // The parsers of model's `Format`, one function each. Each answers the step of the definition's answer, and writes what it read into a row
 // of zeros that its caller lends. Contracts: `stepOf` of specs/Step.antt.
 use crate::Step;
+use crate::Transfer;
 ghost use mathlib.Core.Path.{_≡_};
 ghost use mathlib.Core.List.{List, _++_};
 ghost use Prim.Native.Nat.{ℕ, _+_, _-_, _≤_, _<_};
@@ -8,9 +9,10 @@ ghost use lib.ListN.{length, drop};
 ghost use Rattle.model.specs.Lists.{padded, collect};
 ghost use Rattle.model.specs.Rules.{Atom};
 ghost use Rattle.model.specs.Format.{many};
-ghost use Rattle.model.specs.Form.{atomRow, group, ruleRow, encoded};
+ghost use Rattle.model.specs.Form.{atomRow, group, ruleRow, encoded, reading};
 ghost use Rattle.model.specs.Format as format;
 ghost use Rattle.ruleset.specs.Step.{stepOf, value, none, parsedRules, rulesRow, afterArities, zeros, Filled, Arities, atomSet, atomsSet};
+ghost use Rattle.ruleset.specs.Transfer.{transferOf};
 ghost use Rattle.ruleset.specs.Sets.{setOf};
 ghost use Rattle.ruleset.specs.Heads.{lacking, faultOf, fault as faulty};
 
@@ -312,4 +314,36 @@ fn rule_set(bytes: &[u8], form: &mut [u16]) -> Step
         return listed;
     };
     after_arities(bytes, &arities[..n as usize], k, form)
+}
+
+// The number that the first four bytes spell.
+fn stated(bytes: &[u8]) -> usize
+    requires { ⌜ 4 ≤ length (now bytes) ⌝ }
+    ensures { λ r. ⌜ (r ≡ format.stated (now (bytes .entry))) × (r < 4294967296) ⌝ }
+{
+    ((bytes[0] as usize * 256 + bytes[1] as usize) * 256 + bytes[2] as usize) * 256
+        + bytes[3] as usize
+}
+
+// Bytes into a form (document 01: book form), which stays as it was on a refusal. A form too short is refusal 1.
+pub fn read(bytes: &[u8], form: &mut [u16]) -> Transfer
+    ensures { λ r. ⌜ reading (now (bytes .entry)) (now (form .entry)) ≡ record { answer = transferOf r; form = now (form .exit) } ⌝ }
+{
+    if form.len() < 6850 {
+        return Transfer::Refusal(1, 0);
+    }
+    if bytes.len() < 4 {
+        return Transfer::Refusal(2, 0);
+    }
+    if stated(bytes) + 4 != bytes.len() {
+        return Transfer::Refusal(2, 0);
+    }
+    let mut local = [0u16; 6850];
+    match rule_set(bytes, &mut local[..]) {
+        Step::Good(_, end) => {
+            copy(&local[..], form);
+            Transfer::Done(end)
+        }
+        Step::Bad(refusal, place) => Transfer::Refusal(refusal, place),
+    }
 }
