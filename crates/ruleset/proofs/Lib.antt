@@ -7,3 +7,4 @@ pub mod Heads
 pub mod RuleRow
 pub mod FormRow
 pub mod Reading
+pub mod Writing

@@ -2,3 +2,4 @@ pub mod Sets
 pub mod Step
 pub mod Heads
 pub mod Transfer
+pub mod Writes
