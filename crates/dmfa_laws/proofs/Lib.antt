@@ -4,6 +4,7 @@ pub mod Sizes
 pub mod Cyclic
 pub mod Loops
 pub mod Handled
+pub mod Tests
 pub mod Follows
 pub mod Making
 pub mod Grown
