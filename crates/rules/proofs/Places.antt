@@ -96,6 +96,10 @@ module _ (form : List ℕ) where
     pub few-disjuncts : (i : ℕ) → i < length (rulesOf form) → length (ruleOf form i .head) ≤ 4
     few-disjuncts i l = rule-well-formed i l .few
 
+    pub disjunct-well-formed : (i d : ℕ) → i < length (rulesOf form) → d < length (ruleOf form i .head) → WellFormedAtoms (aritiesOf form) (disjunctOf form i d)
+    unfolding disjunctOf
+    disjunct-well-formed i d l m = rule-well-formed i l .each (disjunctOf form i d) (getD-mem (ruleOf form i .head) d [] m)
+
     pub body-group : (i : ℕ) → i < length (rulesOf form) → GroupPlace form (3 + i * 106)
     body-group i l =
         record {
@@ -105,14 +109,11 @@ module _ (form : List ℕ) where
         }
 
     pub disjunct-group : (i d : ℕ) → i < length (rulesOf form) → d < length (ruleOf form i .head) → GroupPlace form (disjunctPlace i d)
-    unfolding disjunctOf
     disjunct-group i d l m =
         record {
           held = h;
           room = omega (arith, h .room, few-rules, few-disjuncts i l);
-          atoms =
-              subst (WellFormedAtoms (aritiesOf form)) (disjunct-place i d l m)
-              (rule-well-formed i l .each (disjunctOf form i d) (getD-mem (ruleOf form i .head) d [] m));
+          atoms = subst (WellFormedAtoms (aritiesOf form)) (disjunct-place i d l m) (disjunct-well-formed i d l m);
         }
 
   -- the parts of a well-formed group and atom

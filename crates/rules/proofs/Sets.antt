@@ -1,16 +1,17 @@
 -- Laws of sets of variables as numbers. Assumes nothing.
-use mathlib.Core.Path.{_≡_, refl, sym, ap, _∙_}
+use mathlib.Core.Path.{_≡_, refl, sym, ap, ap₂, _∙_}
 use mathlib.Core.Bool.{Bool, true, false, _&&_, _||_, not}
-use mathlib.Core.List.{List, [], _∷_, _++_}
+use mathlib.Core.List.{List, [], _∷_, _++_, append-nil}
 use Prim.Native.Nat.{ℕ, zero, suc, _+_, _-_, _*_, _/_, _%_, _^_, _≤_, _<_, max, min, compare·suc-suc}
-use native.Mathlib.Nat.{pow-suc}
+use native.Mathlib.Nat.{pow-suc, div-one, div-div-eq-div-mul, mul-comm}
 use native.Mathlib.Decide.{decLt}
 use native.Mathlib.Omega.{arith}
 use lib.Dec.{eqb}
 use lib.Bits.{bitOr, bitAnd, or-step, or-zero-l, or-zero-r, and-step}
 use borrow.Author.Tests.{eq-eqb, ne-eqb}
-use Rattle.model.specs.Lists.{any, member}
+use Rattle.model.specs.Lists.{any, collect, member}
 use Rattle.laws.proofs.Bools.{not-both}
+use Rattle.laws.proofs.Lists.{collect-append}
 use Rattle.rules.specs.Sets.{setOf, has}
 
 or-halves : (a b : ℕ) → (bitOr a b / 2 ≡ bitOr (a / 2) (b / 2)) × (bitOr a b % 2 ≡ max (a % 2) (b % 2))
@@ -59,6 +60,15 @@ digit (suc (suc (suc (suc (suc (suc (suc (suc v)))))))) h = absurd (omega arith)
 -- one variable more
 pub setOf-more : (vs : List ℕ) (s v : ℕ) → v ≤ 7 → setOf vs ≡ s → setOf (vs ++ (v ∷ [])) ≡ bitOr s (1 * 2 ^ v % 256)
 setOf-more vs s v h e = setOf-append vs (v ∷ []) ∙ rw (setOf-one v, digit v h, e)
+
+-- the variables of one part more
+pub setOf-collect-more : {A : Type 0} (f : A → List ℕ) (xs : List A) (x : A) (s t : ℕ) → setOf (collect f xs) ≡ s → t ≡ setOf (f x)
+    → setOf (collect f (xs ++ (x ∷ []))) ≡ bitOr s t
+unfolding collect
+setOf-collect-more f xs x s t e h =
+    ap setOf (collect-append f xs (x ∷ []) ∙ ap (λ (ys : List ℕ). collect f xs ++ ys) (append-nil (f x)))
+    ∙ setOf-append (collect f xs) (f x)
+    ∙ ap₂ bitOr e (sym h)
 
 -- the elements of a set, digit by digit
 
@@ -158,3 +168,10 @@ has-complement (suc k) x zero h l = go (x % 2) refl
 has-complement (suc k) x (suc v) h l =
     let e : (2 ^ suc k - 1 - x) / 2 ≡ 2 ^ k - 1 - x / 2 = omega (arith, pow-suc 2 k) in
     rw e (has-complement k (x / 2) v (omega (arith, pow-suc 2 k)) (omega arith))
+
+-- the digit of a variable, shifted down
+pub has-shifted : (x v : ℕ) → has x v ≡ eqb (x / 2 ^ v % 2) 1
+unfolding has
+has-shifted x zero = ap (λ (y : ℕ). eqb (y % 2) 1) (sym (div-one x))
+has-shifted x (suc v) =
+    has-shifted (x / 2) v ∙ ap (λ (y : ℕ). eqb (y % 2) 1) (div-div-eq-div-mul x 2 (2 ^ v) ∙ ap (λ (y : ℕ). x / y) (mul-comm 2 (2 ^ v) ∙ sym (pow-suc 2 v)))

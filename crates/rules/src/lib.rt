@@ -2,3 +2,4 @@
 // function asks for a form that holds a well-formed rule set, as the reader leaves it. The contracts cite the crate's specs.
 pub mod atoms;
 pub mod counts;
+pub mod variables;
