@@ -1,3 +1,4 @@
+pub mod Datalog
 pub mod Elements
 pub mod Lists
 pub mod Places

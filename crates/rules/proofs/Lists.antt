@@ -1,14 +1,16 @@
 -- Laws of lists that are read number by number and row by row, and of rows that are filled from the front. Assumes nothing.
 use mathlib.Core.Path.{_≡_, refl, sym, ap, ap₂, _∙_}
 use mathlib.Core.List.{List, [], _∷_, _++_, map, append-assoc, List·Memᴰ, List·Memᴰ·head, List·Memᴰ·tail}
+use mathlib.Core.Bool.{Bool, true, false, _||_}
 use Prim.Native.Nat.{ℕ, zero, suc, _+_, _-_, _*_, _≤_, _<_}
 use native.Mathlib.Omega.{arith}
 use native.Mathlib.Nat.{zero-mul, suc-mul}
 use native.Mathlib.Numerals.{add-one}
-use lib.ListN.{length, getD, set, replicate, length-append, length-replicate, length-map}
-use lib.Seq.{set-at}
-use Rattle.model.specs.Lists.{numbersFrom, padded}
+use lib.ListN.{length, getD, set, drop, replicate, length-append, length-replicate, drop-of-length-le}
+use lib.Seq.{set-at, drop-cons}
+use Rattle.model.specs.Lists.{any, numbersFrom, padded}
 use Rattle.model.specs.Form.{spaced}
+use Rattle.laws.proofs.Bools.{or-left}
 use Rattle.rules.specs.Places.{filled}
 
 pub length-numbersFrom : (xs : List ℕ) (at n : ℕ) → length (numbersFrom xs at n) ≡ n
@@ -74,6 +76,21 @@ module _ {A : Type 0} where
   pub length-filled : (n : ℕ) (z : A) (xs : List A) → length xs ≤ n → length (filled n z xs) ≡ n
   unfolding filled
   length-filled n z xs h = omega (arith, length-append xs (replicate (n - length xs) z), length-replicate (n - length xs) z)
+
+  -- a search through a list, element by element
+
+  pub any-found : (p : A → Bool) (xs : List A) (i : ℕ) (d : A) → i < length xs → p (getD xs i d) ≡ true → any p (drop i xs) ≡ true
+  unfolding any
+  any-found p xs i d h e = ap (any p) (drop-cons xs i d h) ∙ or-left (p (getD xs i d)) (any p (drop (suc i) xs)) e
+
+  pub any-passed : (p : A → Bool) (xs : List A) (i : ℕ) (d : A) → i < length xs → p (getD xs i d) ≡ false → any p (drop i xs) ≡ any p (drop (i + 1) xs)
+  unfolding any
+  any-passed p xs i d h e =
+      ap (any p) (drop-cons xs i d h) ∙ ap (λ (b : Bool). b || any p (drop (suc i) xs)) e ∙ ap (λ (j : ℕ). any p (drop j xs)) (sym (add-one i))
+
+  pub any-end : (p : A → Bool) (xs : List A) (i : ℕ) → length xs ≤ i → any p (drop i xs) ≡ false
+  unfolding any
+  any-end p xs i h = ap (any p) (drop-of-length-le xs h)
 
 pub padded-filled : (n : ℕ) (xs : List ℕ) → padded n xs ≡ filled n 0 xs
 unfolding padded filled
