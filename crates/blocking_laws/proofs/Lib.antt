@@ -9,5 +9,6 @@ pub mod Base
 pub mod Closing
 pub mod Satisfied
 pub mod Stages
+pub mod Regular
 pub mod Test
 pub mod Growth
