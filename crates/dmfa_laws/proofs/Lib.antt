@@ -11,3 +11,4 @@ pub mod Grown
 pub mod Judging
 pub mod Room
 pub mod Limits
+pub mod Standing
