@@ -16,11 +16,11 @@ take-drop-take k (suc p) zero xs h = absurd (omega arith)
 take-drop-take k (suc p) (suc w) [] h = refl
 take-drop-take k (suc p) (suc w) (x ∷ xs) h = take-drop-take k p w xs (omega arith)
 
-row-at : (w i p : ℕ) (xs : List ℕ) → p < w → getD (row w i xs) p 0 ≡ getD xs (i * w + p) 0
+pub row-at : (w i p : ℕ) (xs : List ℕ) → p < w → getD (row w i xs) p 0 ≡ getD xs (i * w + p) 0
 unfolding row
 row-at w i p xs h = getD-take w (drop (i * w) xs) p 0 h ∙ getD-drop (i * w) xs p 0
 
-row-head : (w i : ℕ) (xs : List ℕ) → 0 < w → getD (row w i xs) 0 0 ≡ getD xs (i * w) 0
+pub row-head : (w i : ℕ) (xs : List ℕ) → 0 < w → getD (row w i xs) 0 0 ≡ getD xs (i * w) 0
 row-head w i xs h = row-at w i 0 xs h ∙ ap (λ (p : ℕ). getD xs p 0) (add-zero (i * w))
 
 -- k numbers of a row from the p-th on, as the part of the table between two places

@@ -82,9 +82,9 @@ fn write_record(head: u16, arguments: &[u16], out: &mut [u8], at: usize) -> usiz
     ensures { λ r. ⌜ Writes (spaced (head ∷ now (arguments .entry)) ++ (10 ∷ [])) at (now (out .entry)) (now (out .exit)) r ⌝ }
 {
     let behind_head = write_number(head as usize, &mut *out, at);
-    let end = write_numbers(arguments, &mut *out, behind_head);
-    out[end] = b'\n';
-    end + 1
+    let behind_arguments = write_numbers(arguments, &mut *out, behind_head);
+    out[behind_arguments] = b'\n';
+    behind_arguments + 1
 }
 
 // The Skolem function and the arguments of term `i`, and a newline.

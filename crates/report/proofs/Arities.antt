@@ -1,0 +1,90 @@
+-- The arities that a form has, and that the text of an answer depends on them number by number. Assumes nothing.
+use mathlib.Core.Path.{_≡_, refl, sym, ap, _∙_, subst, fun-ext}
+use mathlib.Core.List.{List, [], _∷_, _++_, append-assoc}
+use Prim.Native.Nat.{ℕ, zero, suc, _+_, _-_, _≤_}
+use native.Mathlib.Omega.{arith}
+use lib.ListN.{length, getD, take, drop, replicate, length-append, length-take, length-drop}
+use lib.Seq.{take-at, drop-at}
+use Rattle.model.specs.Lists.{collect, padded, row}
+use Rattle.model.specs.Rules.{RuleSet}
+use Rattle.model.specs.WellFormed.{WellFormed}
+use Rattle.model.specs.Format.{Parsed, good, bad, read}
+use Rattle.model.specs.Form.{formLength, aritiesPlace, ruleRow, encoded, Reading, reading}
+use Rattle.model.specs.Stages.{Verdict, accepted, looping, refused}
+use Rattle.model.specs.Text.{line, lines, acceptedWord, cyclicWord, factWord, loopWord, termNumbers, factNumbers, records, text}
+use Rattle.format_laws.proofs.Bytes.{read-well-formed}
+use Rattle.format_laws.proofs.Form.{encoded-length}
+use Rattle.format_laws.proofs.RoundTrip.{reading-bad, reading-good}
+use Rattle.table_laws.proofs.Rows.{length-padded}
+use Rattle.report.specs.Lines.{termLines}
+
+-- a list that has the arities of the rule set in the bytes, if there is one
+pub record Declares (bytes arities : List ℕ) : Type 0 where
+  pub room : 64 ≤ length arities
+  pub same : (b : RuleSet) (i : ℕ) → read bytes ≡ good b i → (p : ℕ) → getD arities p 0 ≡ getD (b .arities) p 0
+
+getD-zeros : (n p : ℕ) → _≡_ {A = ℕ} (getD (replicate n 0) p 0) 0
+getD-zeros zero p = refl
+getD-zeros (suc n) zero = refl
+getD-zeros (suc n) (suc p) = getD-zeros n p
+
+getD-more-zeros : (xs : List ℕ) (n p : ℕ) → getD (xs ++ replicate n 0) p 0 ≡ getD xs p 0
+getD-more-zeros [] n p = getD-zeros n p
+getD-more-zeros (x ∷ xs) n zero = refl
+getD-more-zeros (x ∷ xs) n (suc p) = getD-more-zeros xs n p
+
+getD-padded : (n : ℕ) (xs : List ℕ) (p : ℕ) → getD (padded n xs) p 0 ≡ getD xs p 0
+unfolding padded
+getD-padded n xs p = getD-more-zeros xs (n - length xs) p
+
+-- the last 64 numbers of a form
+encoded-arities : (b : RuleSet) → WellFormed b → (rest : List ℕ) → take 64 (drop aritiesPlace (encoded b ++ rest)) ≡ padded 64 (b .arities)
+unfolding encoded
+encoded-arities b w rest =
+    let rows : List ℕ = padded 6784 (collect ruleRow (b .rules)) in
+    let q = length-padded 64 (b .arities) (w .few) in
+    let a = length-append rows (padded 64 (b .arities)) in
+    let e = encoded-length w in
+    let l : length rows ≡ 6784 = omega arith in
+    ap (λ (xs : List ℕ). take 64 (drop 6784 xs)) (append-assoc rows (padded 64 (b .arities)) rest)
+    ∙ ap (take 64) (drop-at rows (padded 64 (b .arities) ++ rest) 6784 l)
+    ∙ take-at (padded 64 (b .arities)) rest 64 q
+
+-- what `read` leaves has them
+pub reading-declares : (bytes form : List ℕ) → formLength ≤ length form → Declares bytes (take 64 (drop aritiesPlace (reading bytes form .form)))
+reading-declares bytes form h = record { room = room (read bytes) refl; same = same }
+  where
+    arities : List ℕ
+    arities = take 64 (drop aritiesPlace (reading bytes form .form))
+
+    read-good : (b : RuleSet) (i : ℕ) → read bytes ≡ good b i → arities ≡ padded 64 (b .arities)
+    read-good b i e =
+        ap (λ (r : Reading). take 64 (drop aritiesPlace (r .form))) (reading-good bytes form b i h e)
+        ∙ encoded-arities b (read-well-formed bytes b i e) (drop formLength form)
+
+    room : (r : Parsed RuleSet) → read bytes ≡ r → 64 ≤ length arities
+    room (good b i) e = let k = ap length (read-good b i e) ∙ length-padded 64 (b .arities) (read-well-formed bytes b i e .few) in omega arith
+    room (bad n p) e =
+        let k = ap (λ (r : Reading). length (take 64 (drop aritiesPlace (r .form)))) (reading-bad bytes form n p h e) in
+        let l : 64 ≤ length (take 64 (drop aritiesPlace form)) = rw (length-take, length-drop) (omega arith) in
+        omega arith
+
+    same : (b : RuleSet) (i : ℕ) → read bytes ≡ good b i → (p : ℕ) → getD arities p 0 ≡ getD (b .arities) p 0
+    same b i e p = ap (λ (xs : List ℕ). getD xs p 0) (read-good b i e) ∙ getD-padded 64 (b .arities) p
+
+-- the same arities give the same text
+
+module _ (as′ bs : List ℕ) (h : (p : ℕ) → getD as′ p 0 ≡ getD bs p 0) (terms facts : List ℕ) where
+  same-numbers : (i : ℕ) → factNumbers as′ facts i ≡ factNumbers bs facts i
+  unfolding factNumbers
+  same-numbers i = ap (λ (k : ℕ). getD (row 5 i facts) 0 0 ∷ take k (drop 1 (row 5 i facts))) (h (getD (row 5 i facts) 0 0))
+
+  same-records : (f t : ℕ) → records as′ terms facts f t ≡ records bs terms facts f t
+  unfolding records
+  same-records f t = ap (λ (g : ℕ → List ℕ). termLines terms t ++ lines (λ i. line factWord (g i)) f 0) (fun-ext same-numbers)
+
+  pub same-text : (v : Verdict) → text as′ v terms facts ≡ text bs v terms facts
+  unfolding text
+  same-text (accepted n f t) = ap (λ (xs : List ℕ). line acceptedWord (n ∷ f ∷ t ∷ []) ++ xs) (same-records f t)
+  same-text (looping n f t) = ap (λ (xs : List ℕ). line cyclicWord (n ∷ f ∷ t ∷ []) ++ (xs ++ line loopWord (termNumbers terms t))) (same-records f t)
+  same-text (refused n p) = refl

@@ -1,0 +1,46 @@
+-- What `write_text` writes after a check, with the arities out of a form, is the text that the model gives, and 72,767 bytes have room for it.
+-- Assumes nothing.
+use mathlib.Core.Path.{_≡_, refl, sym, ap, _∙_, subst}
+use mathlib.Core.List.{List}
+use Prim.Native.Nat.{ℕ, _+_, _≤_}
+use native.Mathlib.Omega.{arith}
+use lib.ListN.{length, getD}
+use Rattle.model.specs.Rules.{RuleSet}
+use Rattle.model.specs.Format.{good, read}
+use Rattle.model.specs.Stages.{Verdict, refused}
+use Rattle.model.specs.Tables.{Checked, checked}
+use Rattle.model.specs.Text.{text, declared, textOf}
+use Rattle.table_laws.proofs.Courses.{Course, short, faulty, judged, course}
+use Rattle.table_laws.proofs.Printed.{length-textOf}
+use Rattle.report.specs.Writing.{Room}
+use Rattle.report.proofs.Arities.{Declares, same-text}
+
+-- the text of a refusal shows no arity
+refused-text : (as′ bs : List ℕ) (c : Checked) (n p : ℕ) → c .verdict ≡ refused n p → text as′ (c .verdict) (c .terms) (c .facts) ≡ text bs (c .verdict) (c .terms) (c .facts)
+unfolding text
+refused-text as′ bs c n p e = rw e refl
+
+declared-read : (bytes : List ℕ) (b : RuleSet) (i : ℕ) → read bytes ≡ good b i → declared bytes ≡ b .arities
+unfolding declared
+declared-read bytes b i e = rw (e, declared)
+
+pub checked-text : (bytes terms₀ facts₀ as′ : List ℕ) → Declares bytes as′
+    → text as′ (checked bytes terms₀ facts₀ .verdict) (checked bytes terms₀ facts₀ .terms) (checked bytes terms₀ facts₀ .facts) ≡ textOf bytes (checked bytes terms₀ facts₀)
+unfolding textOf
+checked-text bytes terms₀ facts₀ as′ d = go (course bytes terms₀ facts₀)
+  where
+    c : Checked
+    c = checked bytes terms₀ facts₀
+
+    go : Course bytes terms₀ facts₀ → text as′ (c .verdict) (c .terms) (c .facts) ≡ text (declared bytes) (c .verdict) (c .terms) (c .facts)
+    go (short e) = refused-text as′ (declared bytes) c 1 0 (ap (λ (x : Checked). x .verdict) e)
+    go (faulty n p i j h r e) = refused-text as′ (declared bytes) c n p (ap (λ (x : Checked). x .verdict) e)
+    go (judged b i h r e) =
+        same-text as′ (declared bytes) (λ p. d .same b i r p ∙ ap (λ (xs : List ℕ). getD xs p 0) (sym (declared-read bytes b i r))) (c .terms) (c .facts) (c .verdict)
+
+pub checked-room : (bytes terms₀ facts₀ as′ out : List ℕ) → Declares bytes as′ → 72767 ≤ length out
+    → Room (text as′ (checked bytes terms₀ facts₀ .verdict) (checked bytes terms₀ facts₀ .terms) (checked bytes terms₀ facts₀ .facts)) 0 out
+checked-room bytes terms₀ facts₀ as′ out d l =
+    let e = ap length (checked-text bytes terms₀ facts₀ as′ d) in
+    let k = length-textOf bytes terms₀ facts₀ in
+    omega arith
