@@ -257,3 +257,19 @@ unfolding variablesOf
 atoms-more f k at s t e h =
     ap (λ (xs : List Atom). setOf (variablesOf xs)) (ap (λ (m : ℕ). spaced f 5 m at) (add-one k) ∙ spaced-more f 5 k at)
     ∙ setOf-collect-more (λ (a : Atom). a .variables) (spaced f 5 k at) (f (at + k * 5)) s t e h
+
+-- an existential variable is one of the eight, and its index is at most eight
+
+pub existential-range : (r : Rule) (d : List Atom) (v : ℕ) → member v (existential r d) ≡ true → v < 8
+unfolding existential
+existential-range r d v h =
+    names-range (keep-mem (λ (v : ℕ). member v (variablesOf d) && not (inBody r v)) names (member-mem v (existential r d) h) .0)
+
+pub index-most : (v : ℕ) (xs : List ℕ) → index eqb v xs ≤ length xs
+unfolding index
+index-most v [] = omega arith
+index-most v (x ∷ xs) = go (index-most v xs) (case (eqb v x))
+  where
+    go : index eqb v xs ≤ length xs → (eqb v x ≡ true) ⊎ (eqb v x ≡ false) → index eqb v (x ∷ xs) ≤ suc (length xs)
+    go h (inl t) = rw (t, index) (omega arith)
+    go h (inr f) = rw (f, index) (omega arith)

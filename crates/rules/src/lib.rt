@@ -2,4 +2,5 @@
 // function asks for a form that holds a well-formed rule set, as the reader leaves it. The contracts cite the crate's specs.
 pub mod atoms;
 pub mod counts;
+pub mod functions;
 pub mod variables;
