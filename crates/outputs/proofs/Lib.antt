@@ -1,2 +1,3 @@
 pub mod Rows
 pub mod Atoms
+pub mod Naming
