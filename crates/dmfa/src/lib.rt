@@ -1,2 +1,2 @@
-// The check: stages, verdict and the caller's tables. The contracts cite the definitions over rows, in specs/.
+// The check: stages, verdict and the caller's tables. The contracts cite the definitions over rows of `stage_rows`.
 pub mod front;

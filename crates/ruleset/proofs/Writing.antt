@@ -29,7 +29,7 @@ written-good keep parsed bs rest a v j out e k g l =
     record {
       answer = rw (e, k);
       stored = λ b i f. let h : j ≡ i = cc in subst (λ (x : ℕ). Agree bs x out) h g;
-      left = λ b i f. let h : j ≡ i = cc in subst (λ (x : ℕ). drop x bs ≡ rest) h l
+      left = λ b i f. let h : j ≡ i = cc in subst (λ (x : ℕ). drop x bs ≡ rest) h l;
     }
 
 pub ends-bad : (n p i w : ℕ) → Ends (Bad n p) i w
@@ -95,7 +95,7 @@ written-map f keepA keep (good a i) bs rest r after k w =
     record {
       answer = w .answer ∙ ap (λ (n : ℕ). Good n i) (k a);
       stored = λ b j e. let h : i ≡ j = cc in subst (λ (x : ℕ). Agree bs x after) h (w .stored a i refl);
-      left = λ b j e. let h : i ≡ j = cc in subst (λ (x : ℕ). drop x bs ≡ rest) h (w .left a i refl)
+      left = λ b j e. let h : i ≡ j = cc in subst (λ (x : ℕ). drop x bs ≡ rest) h (w .left a i refl);
     }
 written-map f keepA keep (bad n p) bs rest r after k w =
     record { answer = w .answer; stored = λ b j e. bad-is-not-good (bad n p) n p b j refl e; left = λ b j e. bad-is-not-good (bad n p) n p b j refl e }
@@ -137,7 +137,7 @@ module _ {A S : Type 0} (p : List ℕ → ℕ → Parsed A) (Kept : List A → S
         record {
           parsed = more (p bs) Kept nothing n i [] k j 0 s [] (c .parsed) (a .result) next 0 s′ [] h (a .parse) refl (λ done m. step (a .result) (a .kept) done m) refl;
           left = x .left (a .result) next (a .parse);
-          stored = x .stored (a .result) next (a .parse)
+          stored = x .stored (a .result) next (a .parse);
         }
 
     pub writing-refused : (keep : A → ℕ) (whole : List A → ℕ) (piece todo′ now′ left : List ℕ) (r : Step) (m q : ℕ) → k < n → todo ≡ piece ++ todo′ → r ≡ Bad m q

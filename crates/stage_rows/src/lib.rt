@@ -1,0 +1,1 @@
+// The stages and the verdict over rows of numbers, in specs/.
