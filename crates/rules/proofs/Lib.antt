@@ -5,3 +5,4 @@ pub mod Numbering
 pub mod Places
 pub mod Rows
 pub mod Sets
+pub mod Templates

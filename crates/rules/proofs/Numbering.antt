@@ -22,6 +22,7 @@ use Rattle.rules.specs.Places.{Held, rulesOf, ruleOf, disjunctOf}
 use Rattle.rules.specs.Functions.{places, functionsAt, functionsBefore, numbering, entryOf, numberedOf, Numbered, Owned}
 use Rattle.rules.proofs.Lists.{length-spaced, getD-spaced, spaced-more}
 use Rattle.rules.proofs.Places.{few-disjuncts}
+use Rattle.rules.proofs.Elements.{length-keep}
 
 -- sums
 
@@ -52,15 +53,6 @@ total-add c m (suc n) =
     ap (total c) e ∙ omega (arith, total-add c m n)
 
 -- the existential variables of a disjunct are few, and an empty disjunct has none
-
-length-keep : (p : ℕ → Bool) (xs : List ℕ) → length (keep p xs) ≤ length xs
-unfolding keep
-length-keep p [] = omega arith
-length-keep p (x ∷ xs) = go (length-keep p xs) (case (p x))
-  where
-    go : length (keep p xs) ≤ length xs → (p x ≡ true) ⊎ (p x ≡ false) → length (keep p (x ∷ xs)) ≤ suc (length xs)
-    go h (inl t) = omega (arith, ap length (keep-yes p x xs t))
-    go h (inr f) = omega (arith, ap length (keep-no p x xs f))
 
 pub few-existential : (r : Rule) (d : List Atom) → length (existential r d) ≤ 8
 unfolding existential
@@ -132,6 +124,11 @@ module _ (form : List ℕ) where
   pub before-more : (j : ℕ) → functionsBefore form (j + 1) ≡ functionsBefore form j + functionsAt form j
   unfolding functionsBefore
   before-more j = ap (functionsBefore form) (add-one j)
+
+  pub before-most : (j : ℕ) → functionsBefore form j ≤ 8 * j
+  unfolding functionsBefore
+  before-most zero = omega arith
+  before-most (suc j) = omega (arith, before-most j, few-functions j)
 
   -- of one rule: the sum over the first so many of its places
   rule-part : (i d : ℕ) → d ≤ 4 → total (λ (k : ℕ). functionsAt form (i * 4 + k)) d ≡ total (sizes (ruleOf form i) (ruleOf form i .head)) d
