@@ -64,6 +64,16 @@ no-existential r = refl
 
 -- entries by their places
 
+pub length-disjunctsFrom : (n : ℕ) (r : Rule) (ds : List (List Atom)) → length (disjunctsFrom n r ds) ≡ length ds
+unfolding disjunctsFrom
+length-disjunctsFrom n r [] = refl
+length-disjunctsFrom n r (d ∷ ds) = ap suc (length-disjunctsFrom (n + length (existential r d)) r ds)
+
+pub length-entriesFrom : (n : ℕ) (rs : List Rule) → length (entriesFrom n rs) ≡ length rs
+unfolding entriesFrom
+length-entriesFrom n [] = refl
+length-entriesFrom n (r ∷ rs) = ap suc (length-entriesFrom (n + countSkolem r (r .head)) rs)
+
 sizes : Rule → List (List Atom) → ℕ → ℕ
 sizes r ds k = length (existential r (getD ds k []))
 
@@ -144,6 +154,16 @@ module _ (form : List ℕ) where
       ap (total (functionsAt form)) e
       ∙ total-add (functionsAt form) (i * 4) 4
       ∙ ap₂ (λ (a b : ℕ). a + b) (rules-part h i (omega arith)) (rule-part i 4 (omega arith) ∙ sym c)
+
+  pub count-entries : length (entries (decoded form)) ≡ length (rulesOf form)
+  unfolding entries rulesOf
+  count-entries = length-entriesFrom 0 (rulesOf form)
+
+  pub count-numbered : (i : ℕ) → i < length (rulesOf form) → length (entryOf form i .disjuncts) ≡ length (ruleOf form i .head)
+  unfolding entryOf entries rulesOf ruleOf
+  count-numbered i l =
+      let z : Entry = record { rule = noRule; disjuncts = [] } in
+      ap length (entry-numbered 0 (rulesOf form) i z l) ∙ length-disjunctsFrom (0 + total (counts (rulesOf form)) i) (ruleOf form i) (ruleOf form i .head)
 
   -- a disjunct of an entry, by its place
   pub numbered-place : Held form → (i d : ℕ) → i < length (rulesOf form) → d < length (ruleOf form i .head)
