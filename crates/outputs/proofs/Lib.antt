@@ -1,3 +1,5 @@
 pub mod Rows
 pub mod Atoms
 pub mod Naming
+pub mod Variables
+pub mod Disjuncts

@@ -1,3 +1,4 @@
 pub mod Room
 pub mod Atoms
 pub mod Naming
+pub mod Skolem

@@ -1,0 +1,159 @@
+-- Laws of sets of variables taken in rising order, and of Skolem rows filled so. Assumes nothing.
+use mathlib.Core.Path.{_≡_, refl, sym, ap, _∙_, subst}
+use mathlib.Core.Bool.{Bool, true, false}
+use mathlib.Core.List.{List, [], _∷_, _++_, map, map-append, append-assoc, append-nil, List·Memᴰ, List·Memᴰ·head, List·Memᴰ·tail, List·Memᴰ·not-nil, List·Memᴰ·cases-cons}
+use mathlib.Core.Logic.{_⊎_, inl, inr, ⊎-elim}
+use Prim.Native.Nat.{ℕ, zero, suc, _+_, _-_, _≤_, _<_}
+use native.Mathlib.Nat.{add-zero, add-suc, suc-add, zero-add}
+use native.Mathlib.Numerals.{add-one}
+use native.Mathlib.Omega.{arith}
+use lib.Dec.{eqb}
+use lib.ListN.{length, getD, set, length-append}
+use borrow.Author.Tests.{eq-eqb, ne-eqb}
+use Rattle.model.specs.Lists.{keep, index, padded}
+use Rattle.model.specs.Rules.{names}
+use Rattle.laws.proofs.Bools.{case}
+use Rattle.laws.proofs.Lists.{keep-yes, keep-no, keep-mem, index-here, index-there, eqb-decides}
+use Rattle.rows.specs.Triggers.{rising}
+use Rattle.rules.specs.Sets.{has, elements}
+use Rattle.outputs.specs.Skolem.{functionWith, templateWith, placed}
+use Rattle.outputs.proofs.Rows.{padded-more}
+
+-- numbers in rising order
+
+rising-append : (k a b : ℕ) → rising k (a + b) ≡ rising k a ++ rising (k + a) b
+unfolding rising
+rising-append k zero b = rw (zero-add b, add-zero k)
+rising-append k (suc a) b = ap (rising k) (suc-add a b) ∙ ap (λ (xs : List ℕ). k ∷ xs) (rising-append (suc k) a b ∙ ap (λ (m : ℕ). rising (suc k) a ++ rising m b) (suc-add k a ∙ sym (add-suc k a)))
+
+rising-mem : (k n : ℕ) {x : ℕ} → List·Memᴰ x (rising k n) → (k ≤ x) × (x < k + n)
+unfolding rising
+rising-mem k zero m = absurd (List·Memᴰ·not-nil m)
+rising-mem k (suc n) {x} m = ⊎-elim (λ (e : x ≡ k). (omega arith, omega arith)) (λ (j : List·Memᴰ x (rising (suc k) n)). let b = rising-mem (suc k) n j in (omega arith, omega arith)) (List·Memᴰ·cases-cons m)
+
+module _ (p : ℕ → Bool) where
+  keep-append : (xs ys : List ℕ) → keep p (xs ++ ys) ≡ keep p xs ++ keep p ys
+  unfolding keep
+  keep-append [] ys = refl
+  keep-append (x ∷ xs) ys = go (case (p x)) (keep-append xs ys)
+    where
+      go : (p x ≡ true) ⊎ (p x ≡ false) → keep p (xs ++ ys) ≡ keep p xs ++ keep p ys → keep p (x ∷ (xs ++ ys)) ≡ keep p (x ∷ xs) ++ keep p ys
+      go (inl e) below = rw (keep-yes p x (xs ++ ys) e, keep-yes p x xs e) (ap (λ (zs : List ℕ). x ∷ zs) below)
+      go (inr e) below = rw (keep-no p x (xs ++ ys) e, keep-no p x xs e) below
+
+-- the variables of a set below v
+pub below : ℕ → ℕ → List ℕ
+below s v = keep (has s) (rising 0 v)
+
+pub below-none : (s : ℕ) → below s 0 ≡ []
+unfolding below rising keep
+below-none s = refl
+
+pub below-all : (s : ℕ) → below s 8 ≡ elements s
+unfolding below rising elements
+below-all s = refl
+
+below-snoc : (s v : ℕ) → below s (v + 1) ≡ below s v ++ keep (has s) (v ∷ [])
+unfolding below rising
+below-snoc s v =
+    ap (keep (has s)) (rising-append 0 v 1 ∙ ap (λ (k : ℕ). rising 0 v ++ (k ∷ [])) (zero-add v)) ∙ keep-append (has s) (rising 0 v) (v ∷ [])
+
+pub below-yes : (s v : ℕ) → has s v ≡ true → below s (v + 1) ≡ below s v ++ (v ∷ [])
+unfolding keep
+below-yes s v e = below-snoc s v ∙ ap (λ (xs : List ℕ). below s v ++ xs) (keep-yes (has s) v [] e)
+
+pub below-no : (s v : ℕ) → has s v ≡ false → below s (v + 1) ≡ below s v
+unfolding keep
+below-no s v e = below-snoc s v ∙ ap (λ (xs : List ℕ). below s v ++ xs) (keep-no (has s) v [] e) ∙ append-nil (below s v)
+
+pub below-mem : (s v : ℕ) {x : ℕ} → List·Memᴰ x (below s v) → x < v
+unfolding below
+below-mem s v m = let (k, e) = keep-mem (has s) (rising 0 v) m in let b = rising-mem 0 v k in omega arith
+
+index-seam : (v : ℕ) (xs ys : List ℕ) → ((x : ℕ) → List·Memᴰ x xs → x < v) → index eqb v (xs ++ v ∷ ys) ≡ length xs
+index-seam v [] ys h = index-here eqb eqb-decides v v ys (eq-eqb v v refl)
+index-seam v (x ∷ xs) ys h =
+    let b = h x (List·Memᴰ·head refl) in
+    index-there eqb eqb-decides v x (xs ++ v ∷ ys) (ne-eqb v x (λ e. omega arith)) ∙ ap suc (index-seam v xs ys (λ y m. h y (List·Memᴰ·tail m)))
+
+-- a variable's place in its set
+pub rank-below : (s v : ℕ) → v < 8 → has s v ≡ true → index eqb v (elements s) ≡ length (below s v)
+unfolding elements below rising
+rank-below s v h e =
+    let split : v + suc (7 - v) ≡ 8 = omega arith in
+    let whole : elements s ≡ below s v ++ v ∷ keep (has s) (rising (suc v) (7 - v)) =
+    ap (λ (k : ℕ). keep (has s) (rising 0 k)) (sym split)
+    ∙ ap (keep (has s)) (rising-append 0 v (suc (7 - v)) ∙ ap (λ (k : ℕ). rising 0 v ++ rising k (suc (7 - v))) (zero-add v))
+    ∙ keep-append (has s) (rising 0 v) (rising v (suc (7 - v)))
+    ∙ ap (λ (xs : List ℕ). below s v ++ xs) (keep-yes (has s) v (rising (suc v) (7 - v)) e) in
+    ap (index eqb v) whole ∙ index-seam v (below s v) (keep (has s) (rising (suc v) (7 - v))) (λ x m. below-mem s v m)
+
+keep-length : (p : ℕ → Bool) (xs : List ℕ) → length (keep p xs) ≤ length xs
+unfolding keep
+keep-length p [] = omega arith
+keep-length p (x ∷ xs) = go (case (p x)) (keep-length p xs)
+  where
+    go : (p x ≡ true) ⊎ (p x ≡ false) → length (keep p xs) ≤ length xs → length (keep p (x ∷ xs)) ≤ suc (length xs)
+    go (inl e) b = rw (keep-yes p x xs e) (omega arith)
+    go (inr e) b = rw (keep-no p x xs e) (omega arith)
+
+rising-length : (k n : ℕ) → length (rising k n) ≡ n
+unfolding rising
+rising-length k zero = refl
+rising-length k (suc n) = ap suc (rising-length (suc k) n)
+
+pub below-length : (s v : ℕ) → length (below s v) ≤ v
+unfolding below
+below-length s v = let b = keep-length (has s) (rising 0 v) in let l = rising-length 0 v in omega arith
+
+pub elements-length : (s : ℕ) → length (elements s) ≤ 8
+elements-length s = let b = below-length s 8 in omega (arith, ap length (below-all s))
+
+-- the Skolem row, argument by argument
+
+pub filledUp : ℕ → (ℕ → ℕ) → ℕ → List ℕ
+filledUp s α v = padded 10 (0 ∷ length (elements s) ∷ map α (below s v))
+
+pub filledUp-none : (s : ℕ) (α : ℕ → ℕ) → 0 ∷ length (elements s) ∷ 0 ∷ 0 ∷ 0 ∷ 0 ∷ 0 ∷ 0 ∷ 0 ∷ 0 ∷ [] ≡ filledUp s α 0
+unfolding filledUp padded below rising keep
+filledUp-none s α = refl
+
+pub filledUp-all : (s : ℕ) (α : ℕ → ℕ) → filledUp s α 8 ≡ templateWith (elements s) α
+unfolding filledUp templateWith
+filledUp-all s α = ap (λ (xs : List ℕ). padded 10 (0 ∷ length (elements s) ∷ map α xs)) (below-all s)
+
+map-length : (α : ℕ → ℕ) (xs : List ℕ) → length (map α xs) ≡ length xs
+map-length α [] = refl
+map-length α (x ∷ xs) = ap suc (map-length α xs)
+
+pub filledUp-more : (s : ℕ) (α : ℕ → ℕ) (v : ℕ) → v < 8 → placed (filledUp s α v) s v (α v) ≡ filledUp s α (v + 1)
+unfolding filledUp placed
+filledUp-more s α v h = go (case (has s v))
+  where
+    go : (has s v ≡ true) ⊎ (has s v ≡ false) → placed (filledUp s α v) s v (α v) ≡ filledUp s α (v + 1)
+    go (inl e) =
+        let xs : List ℕ = 0 ∷ length (elements s) ∷ map α (below s v) in
+        let l = map-length α (below s v) in
+        let b = below-length s v in
+        let at : 2 + index eqb v (elements s) ≡ length xs = omega (arith, rank-below s v h e) in
+        rw (e, placed)
+        (ap (λ (k : ℕ). set (padded 10 xs) k (α v)) at
+        ∙ padded-more 10 xs (α v) (omega arith)
+        ∙ ap (λ (ys : List ℕ). padded 10 (0 ∷ length (elements s) ∷ ys)) (sym (map-append α (below s v) (v ∷ [])) ∙ ap (map α) (sym (below-yes s v e))))
+    go (inr e) = rw (e, placed) (ap (λ (ys : List ℕ). padded 10 (0 ∷ length (elements s) ∷ map α ys)) (sym (below-no s v e)))
+
+pub functionWith-none : (s b v : ℕ) → has s v ≡ false → functionWith s b v ≡ 0
+unfolding functionWith
+functionWith-none s b v e = rw (e, functionWith)
+
+pub functionWith-some : (s b v : ℕ) → has s v ≡ true → functionWith s b v ≡ b + suc (index eqb v (elements s))
+unfolding functionWith
+functionWith-some s b v e = rw (e, functionWith)
+
+pub placed-none : (row : List ℕ) (s v n : ℕ) → has s v ≡ false → placed row s v n ≡ row
+unfolding placed
+placed-none row s v n e = rw (e, placed)
+
+pub placed-some : (row : List ℕ) (s v n : ℕ) → has s v ≡ true → placed row s v n ≡ set row (2 + index eqb v (elements s)) n
+unfolding placed
+placed-some row s v n e = rw (e, placed)

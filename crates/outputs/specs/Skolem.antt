@@ -1,0 +1,20 @@
+-- The Skolem functions and Skolem rows of a disjunct, by the sets of its existential variables and of its rule's frontier. Assumes nothing.
+use mathlib.Core.List.{List, _∷_, map}
+use mathlib.Core.Bool.{Bool, true, false}
+use Prim.Native.Nat.{ℕ, suc, _+_}
+use lib.Dec.{eqb}
+use lib.ListN.{length, set}
+use Rattle.model.specs.Lists.{index, padded}
+use Rattle.rules.specs.Sets.{has, elements}
+
+-- the Skolem function of a variable, 0 if it is not existential
+unfoldable pub functionWith : ℕ → ℕ → ℕ → ℕ
+functionWith existential before v = elim (has existential v) [ true ↦ before + suc (index eqb v (elements existential)) | false ↦ 0 ]
+
+-- the row of the Skolem terms, but for their function
+unfoldable pub templateWith : List ℕ → (ℕ → ℕ) → List ℕ
+templateWith frontier α = padded 10 (0 ∷ length frontier ∷ map α frontier)
+
+-- the number of a variable of the frontier at its place
+unfoldable pub placed : List ℕ → ℕ → ℕ → ℕ → List ℕ
+placed row frontier v number = elim (has frontier v) [ true ↦ set row (2 + index eqb v (elements frontier)) number | false ↦ row ]
