@@ -5,3 +5,4 @@ pub mod Rows
 pub mod Arities
 pub mod Legible
 pub mod Printed
+pub mod Printing

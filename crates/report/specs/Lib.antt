@@ -1,3 +1,4 @@
 pub mod Writing
 pub mod Legible
 pub mod Lines
+pub mod Printing

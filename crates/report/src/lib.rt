@@ -3,12 +3,13 @@
 use verdict::Verdict;
 ghost use mathlib.Core.Path.{_≡_};
 ghost use mathlib.Core.List.{[], _∷_, _++_};
-ghost use Prim.Native.Nat.{suc, _+_, _<_};
+ghost use Prim.Native.Nat.{suc, _+_, _≤_, _<_};
 ghost use lib.ListN.{length};
-ghost use Rattle.model.specs.Text.{decimal, line, refusedWord, termWord, factWord, loopWord, termNumbers, factNumbers, records, text};
+ghost use Rattle.model.specs.Text.{decimal, line, refusedWord, termWord, factWord, loopWord, termNumbers, factNumbers, records, text, textOf};
 ghost use Rattle.verdict.specs.Verdict.{meant};
 ghost use Rattle.table_laws.proofs.Lines.{spaced};
 ghost use Rattle.report.specs.Writing.{Room, Writes};
+ghost use Rattle.report.specs.Printing.{Answer, textRoom};
 ghost use Rattle.report.specs.Lines.{termLines, factLines};
 ghost use Rattle.report.specs.Legible.{LegibleTerms, LegibleFacts, Legible};
 
@@ -233,4 +234,20 @@ pub fn write_text(
         }
         Verdict::Refused(number, place) => write_refusal(number, place, &mut *out),
     }
+}
+
+// The text of the check's answer on these bytes. The arities stand in the form, whose places are 0 where the bytes are refused.
+pub fn write_answer(
+    bytes: &[u8],
+    verdict: Verdict,
+    terms: &[u16],
+    facts: &[u16],
+    out: &mut [u8],
+) -> usize
+    requires { ⌜ Answer (now bytes) verdict (now terms) (now facts) × (textRoom ≤ length (now out)) ⌝ }
+    ensures { λ r. ⌜ Writes (textOf (now (bytes .entry)) (record { verdict = meant verdict; terms = now (terms .entry); facts = now (facts .entry) })) 0 (now (out .entry)) (now (out .exit)) r ⌝ }
+{
+    let mut form = [0u16; 6850];
+    ruleset::reader::read(bytes, &mut form);
+    write_text(verdict, &form[6786..6850], terms, facts, &mut *out)
 }

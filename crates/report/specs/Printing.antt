@@ -1,0 +1,38 @@
+-- Everything that `print` answers and leaves behind. Assumes nothing.
+use mathlib.Core.Path.{_≡_}
+use mathlib.Core.Bool.{Bool, true, false, _&&_}
+use mathlib.Core.List.{List, _++_}
+use Prim.Native.Nat.{ℕ}
+use lib.Dec.{leb}
+use lib.ListN.{length, drop}
+use Rattle.model.specs.Form.{Transfer, done, refusal}
+use Rattle.model.specs.Tables.{Checked, checked, termsFront, factsFront}
+use Rattle.model.specs.Text.{textOf}
+use Rattle.verdict.specs.declared.Verdict.{Verdict}
+use Rattle.verdict.specs.Verdict.{meant}
+
+-- so many bytes have room for every text
+abbrev pub textRoom : ℕ
+textRoom = 72767
+
+pub record Printing : Type 0 where
+  pub answer : Transfer
+  pub terms : List ℕ
+  pub facts : List ℕ
+  pub out : List ℕ
+
+-- a list too short is refusal 1, and changes nothing
+unfoldable pub printing : List ℕ → List ℕ → List ℕ → List ℕ → Printing
+printing bytes terms facts out =
+    elim (leb termsFront (length terms) && leb factsFront (length facts) && leb textRoom (length out)) [
+      | false ↦ record { answer = refusal 1 0; terms = terms; facts = facts; out = out }
+      | true ↦
+          let c : Checked = checked bytes terms facts in
+          let s : List ℕ = textOf bytes c in
+          record { answer = done (length s); terms = c .terms; facts = c .facts; out = s ++ drop (length s) out }
+    ]
+
+-- an answer of the check, and what the check left in its tables
+abbrev pub Answer : List ℕ → Verdict → List ℕ → List ℕ → Type 0
+Answer bytes v terms facts =
+    (terms₀ : List ℕ) × (facts₀ : List ℕ) × (checked bytes terms₀ facts₀ ≡ record { verdict = meant v; terms = terms; facts = facts })
