@@ -1,16 +1,21 @@
 -- What `print` leaves is what the definition gives: for a list too short, and for an answer of the check whose text was written. Assumes nothing.
 use mathlib.Core.Path.{_≡_, refl, sym, ap, _∙_, subst}
+use mathlib.Core.Bool.{Bool, true, false, _&&_}
+use mathlib.Core.Logic.{_⊎_, inl, inr}
 use mathlib.Core.List.{List, _++_}
 use Prim.Native.Nat.{ℕ, _+_, _≤_, _<_}
 use native.Mathlib.Nat.{zero-add}
 use native.Mathlib.Omega.{arith}
 use lib.ListN.{length, take, drop}
-use borrow.Author.Tests.{le-leb, lt-leb}
+use lib.Dec.{leb}
+use borrow.Author.Tests.{le-leb, lt-leb, leb-true}
 use Rattle.model.specs.Form.{Transfer, done, refusal}
 use Rattle.model.specs.Tables.{Checked, checked, termsFront, factsFront}
 use Rattle.model.specs.Text.{text, textOf}
 use Rattle.verdict.specs.declared.Verdict.{Verdict}
 use Rattle.verdict.specs.Verdict.{meant}
+use Rattle.laws.proofs.Bools.{case, and-true}
+use Rattle.table_laws.proofs.Printed.{length-textOf}
 use Rattle.terms.specs.Rows.{written}
 use Rattle.report.specs.Writing.{Room, Writes}
 use Rattle.report.specs.Legible.{Legible}
@@ -69,3 +74,26 @@ module _ (bytes terms facts out : List ℕ) where
       let p : length s ≡ r = sym (w .next ∙ zero-add (length s)) in
       let q : s ++ drop (length s) out ≡ out′ = sym (w .left ∙ ap (λ (n : ℕ). s ++ drop n out) (zero-add (length s))) in
       long h k l ∙ ap printedAs e ∙ (λ i. record { answer = done (p i); terms = c .terms; facts = c .facts; out = q i })
+
+-- how many bytes were written is within the list
+pub print-within : (bytes terms facts out : List ℕ) (x : Printing) → printing bytes terms facts out ≡ x → (n : ℕ) → x .answer ≡ done n → n ≤ length out
+unfolding printing
+print-within bytes terms facts out x e n a = go (case test)
+  where
+    test : Bool
+    test = leb termsFront (length terms) && leb factsFront (length facts) && leb textRoom (length out)
+
+    told : printing bytes terms facts out .answer ≡ done n
+    told = ap (λ (y : Printing). y .answer) e ∙ a
+
+    go : (test ≡ true) ⊎ (test ≡ false) → n ≤ length out
+    go (inl t) =
+        let r = leb-true textRoom (length out) (and-true (leb termsFront (length terms) && leb factsFront (length facts)) (leb textRoom (length out)) t .1) in
+        let q : done (length (textOf bytes (checked bytes terms facts))) ≡ done n = rw (t, printing) at told in
+        let m : length (textOf bytes (checked bytes terms facts)) ≡ n = cc in
+        let k = length-textOf bytes terms facts in
+        omega arith
+    go (inr t) =
+        let q : refusal 1 0 ≡ done n = rw (t, printing) at told in
+        let z : _≡_ {A = ℕ} 0 1 = cc in
+        absurd (omega arith)
