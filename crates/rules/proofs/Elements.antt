@@ -15,7 +15,7 @@ use lib.Seq.{take-suc}
 use lib.Bits.{bitOr, bitAnd, or-lt, and-le-l, mask-lt}
 use lib.Pow.{pow-lt, pow-pos}
 use lib.Count.{ones, onesIn, ones-step}
-use borrow.Author.Tests.{not-false, eqb-true, eqb-false, eq-eqb, ne-eqb}
+use borrow.Author.Tests.{not-false, eq-eqb, ne-eqb}
 use Rattle.model.specs.Lists.{any, keep, collect, index, member}
 use Rattle.model.specs.Rules.{Atom, Rule, names, variablesOf, inBody, universal, frontier, existential, detached}
 use Rattle.laws.proofs.Bools.{case, not-both, is-false}

@@ -1,14 +1,13 @@
 -- The numbering of Skolem functions by places is that of model's `entries`, and a function belongs to the disjunct of the last place that
 -- fewer are numbered before. Assumes nothing.
-use mathlib.Core.Path.{_≡_, refl, sym, ap, ap₂, _∙_, subst}
-use mathlib.Core.Bool.{Bool, true, false, _&&_, not}
-use mathlib.Core.Logic.{_⊎_, inl, inr}
+use mathlib.Core.Path.{_≡_, refl, sym, ap, ap₂, _∙_}
+use mathlib.Core.Bool.{_&&_, not}
 use mathlib.Core.List.{List, [], _∷_, _++_, append-assoc}
-use Prim.Native.Nat.{ℕ, zero, suc, _+_, _-_, _*_, _/_, _%_, _≤_, _<_}
+use Prim.Native.Nat.{ℕ, zero, suc, _+_, _*_, _/_, _%_, _≤_, _<_}
 use native.Mathlib.Decide.{decLt}
 use native.Mathlib.Omega.{arith}
 use native.Mathlib.Numerals.{add-one}
-use lib.Dec.{eqb, ltb}
+use lib.Dec.{ltb}
 use lib.ListN.{length, getD, set, drop}
 use lib.Seq.{set-at, drop-cons}
 use lib.ListN.{List·getD-append, List·getD-eq-default}
@@ -16,8 +15,7 @@ use borrow.Author.Tests.{lt-ltb}
 use Rattle.model.specs.Lists.{any, keep, collect, member}
 use Rattle.model.specs.Rules.{Atom, Rule, Disjunct, Entry, names, variablesOf, inBody, existential, disjunctsFrom, countSkolem, entriesFrom, entries, owns}
 use Rattle.model.specs.Form.{spaced, decoded}
-use Rattle.laws.proofs.Bools.{case, true-and}
-use Rattle.laws.proofs.Lists.{keep-yes, keep-no}
+use Rattle.laws.proofs.Bools.{true-and}
 use Rattle.rules.specs.Places.{Held, rulesOf, ruleOf, disjunctOf}
 use Rattle.rules.specs.Functions.{places, functionsAt, functionsBefore, numbering, entryOf, numberedOf, Numbered, Owned}
 use Rattle.rules.proofs.Lists.{length-spaced, getD-spaced, spaced-more}

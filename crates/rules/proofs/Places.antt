@@ -1,13 +1,13 @@
 -- Where a form has its counts, arities, rules, disjuncts and atoms; a well-formed form has well-formed ones there. Assumes nothing.
-use mathlib.Core.Path.{_≡_, refl, sym, ap, _∙_, subst}
-use mathlib.Core.List.{List, [], _∷_}
-use Prim.Native.Nat.{ℕ, zero, suc, _+_, _-_, _*_, _≤_, _<_}
+use mathlib.Core.Path.{_≡_, refl, ap, _∙_, subst}
+use mathlib.Core.List.{List, []}
+use Prim.Native.Nat.{ℕ, suc, _+_, _*_, _≤_, _<_}
 use native.Mathlib.Omega.{arith}
 use lib.ListN.{length, getD}
 use Rattle.model.specs.Lists.{numbersFrom}
-use Rattle.model.specs.Rules.{Atom, Rule, RuleSet}
-use Rattle.model.specs.WellFormed.{WellFormedAtom, WellFormedAtoms, WellFormedRule, WellFormed}
-use Rattle.model.specs.Form.{formLength, spaced, decoded, atomAt, groupAt, ruleAt}
+use Rattle.model.specs.Rules.{Atom, Rule}
+use Rattle.model.specs.WellFormed.{WellFormedAtom, WellFormedAtoms, WellFormedRule}
+use Rattle.model.specs.Form.{spaced, decoded, atomAt, groupAt, ruleAt}
 use Rattle.rules.specs.Places.{Held, aritiesOf, rulesOf, ruleOf, disjunctOf, atomOf, groupOf, AtomPlace, GroupPlace}
 use Rattle.rules.proofs.Lists.{length-numbersFrom, getD-numbersFrom, getD-mem, length-spaced, getD-spaced}
 

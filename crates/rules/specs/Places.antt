@@ -1,8 +1,8 @@
 -- What a form holds, by rule and disjunct number, and a rule's atoms as rows of five numbers. Assumes nothing.
-use mathlib.Core.List.{List, [], _∷_, _++_, map}
-use Prim.Native.Nat.{ℕ, _+_, _-_, _≤_, _<_}
+use mathlib.Core.List.{List, [], _++_, map}
+use Prim.Native.Nat.{ℕ, _+_, _-_, _≤_}
 use lib.ListN.{length, getD, replicate}
-use Rattle.model.specs.Rules.{Atom, Rule, RuleSet}
+use Rattle.model.specs.Rules.{Atom, Rule}
 use Rattle.model.specs.WellFormed.{WellFormedAtom, WellFormedAtoms, WellFormed}
 use Rattle.model.specs.Form.{formLength, decoded, atomRow, atomAt, groupAt}
 
