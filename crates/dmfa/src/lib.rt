@@ -1,2 +1,4 @@
 // The check: stages, verdict and the caller's tables. The contracts cite the definitions over rows of `stage_rows`.
 pub mod front;
+pub mod large;
+pub mod looping;

@@ -1,0 +1,121 @@
+-- `dmfa::large::any_large` meets its contract. The loop's invariant: what is left of the triggers decides. Each turn finds one more trigger,
+-- or ends the search. Assumes nothing.
+use mathlib.Core.Path.{_≡_, refl, sym, ap, _∙_, subst}
+use mathlib.Core.Bool.{true, false}
+use mathlib.Core.List.{List}
+use Prim.Native.Nat.{ℕ, suc, _+_, _≤_}
+use native.Mathlib.Omega.{arith}
+use borrow.Author.Needs.{needs}
+use lib.ListN.{length, getD}
+use Rattle.model.specs.Lists.{any}
+use Rattle.laws.proofs.Bools.{not-both}
+use Rattle.triggers.specs.Match.{Body}
+use Rattle.triggers.specs.Next.{triggersFrom}
+use Rattle.triggers.proofs.Order.{zeros-at, raise-length}
+use Rattle.dmfa.specs.Large.{large}
+use Rattle.dmfa.proofs.Triggers.{behind-most}
+use Rattle.dmfa.proofs.Steps.{turn, next-passes, next-fails, next-none, next-fewer, large-yes, large-no}
+use Rattle.dmfa.proofs.large.any_large.Statement.{statement}
+use Rattle.dmfa.proofs.large.any_large.Tie as tie
+
+abbrev Inv-loop : tie.InvT-loop
+Inv-loop body arities atoms set terms n facts m start₀ going₀ start going =
+    ((i : ℕ) → getD start i 0 ≤ n)
+    × (length start ≡ 8)
+    × (any (large terms set) (triggersFrom (record { atoms = body; arities = arities; count = atoms }) facts m n start₀)
+    ≡ any (large terms set) (triggersFrom (record { atoms = body; arities = arities; count = atoms }) facts m n start))
+    × (going ≡ false → any (large terms set) (triggersFrom (record { atoms = body; arities = arities; count = atoms }) facts m n start) ≡ false)
+
+abbrev μ-loop : tie.MeasureT-loop
+μ-loop body arities atoms set terms n facts m start₀ going₀ start going = length (triggersFrom (record { atoms = body; arities = arities; count = atoms }) facts m n start) + turn going
+
+loop-holds : tie.Need-loop-holds Inv-loop μ-loop
+loop-holds c =
+    let s = c .before .before in
+    ((λ i. subst (λ (k : ℕ). k ≤ s .args .n) (sym (zeros-at 8 i)) (omega arith)), refl, refl, λ e. not-both true refl e)
+
+cast-next-trigger : tie.Need-cast-next-trigger Inv-loop μ-loop
+cast-next-trigger c = omega arith
+
+next-trigger-requires : tie.Need-next-trigger-requires Inv-loop μ-loop
+next-trigger-requires c κs = let s = c .before .before .before .before in (s .pre .0, c .before .loop .inv .0)
+
+places-requires : tie.Need-places-requires Inv-loop μ-loop
+places-requires c κs = let s = c .before .before .before .before .before .before .before in (s .pre .1, c .before .before .next-trigger .ensures .within (c .if1 .taken))
+
+returns : tie.Need-returns Inv-loop μ-loop
+returns c =
+    let t = c .before .before in
+    let n = t .before .before .next-trigger in
+    let l = t .before .before .before .before in
+    let a = l .before .before .before .args in
+    sym
+    (l .loop .inv .2
+    ∙ next-passes (n .ensures) (large (a .terms .now) (a .set)) (t .if1 .taken)
+    (large-yes (a .terms .now) (a .set) (n .result .assignment) (c .before .places .result) (c .before .places .ensures) (c .if2 .taken)))
+
+behind-requires : tie.Need-behind-requires Inv-loop μ-loop
+behind-requires c κs =
+    let t = c .before .before in
+    let s = t .before .before .before .before .before .before .before in
+    let w = t .before .before .next-trigger .ensures .within (t .if1 .taken) 7 in
+    (omega arith, omega (arith, s .pre .2))
+
+loop-less : tie.Need-loop-less Inv-loop μ-loop
+loop-less c =
+    let t = c .before .before .before in
+    let n = t .before .before .next-trigger in
+    let l = t .before .before .before .before in
+    let a = l .before .before .before .args in
+    let b : Body = record { atoms = a .body; arities = a .arities; count = a .atoms } in
+    let f = next-fewer (n .ensures) (t .if1 .taken) in
+    let e = ap (λ (ys : List ℕ). length (triggersFrom b (a .facts .now) (a .m) (a .n) ys)) (c .behind .ensures) in
+    omega arith
+
+loop-again : tie.Need-loop-again Inv-loop μ-loop
+loop-again c =
+    let t = c .before .before .before in
+    let n = t .before .before .next-trigger in
+    let l = t .before .before .before .before in
+    let a = l .before .before .before .args in
+    let b : Body = record { atoms = a .body; arities = a .arities; count = a .atoms } in
+    let long : length (n .result .assignment) ≡ 8 = search needs in
+    let failed = large-no (a .terms .now) (a .set) (n .result .assignment) (c .before .before .places .result) (c .before .before .places .ensures) (c .before .if2 .left) in (
+      (λ i. subst (λ (ys : List ℕ). getD ys i 0 ≤ a .n) (sym (c .behind .ensures)) (behind-most (n .result .assignment) (a .n) long (n .ensures .within (t .if1 .taken)) i)),
+      ap length (c .behind .ensures) ∙ raise-length (n .result .assignment) 7 (suc (getD (n .result .assignment) 7 0)) ∙ long,
+      l .loop .inv .2
+          ∙ next-fails (n .ensures) (large (a .terms .now) (a .set)) (t .if1 .taken) failed
+          ∙ ap (λ (ys : List ℕ). any (large (a .terms .now) (a .set)) (triggersFrom b (a .facts .now) (a .m) (a .n) ys)) (sym (c .behind .ensures)),
+      λ e. not-both (l .loop .going) (t .before .before .before .loop-test .taken) e,
+    )
+
+loop-less-2 : tie.Need-loop-less-2 Inv-loop μ-loop
+loop-less-2 c = let e = ap turn (c .before .before .before .loop-test .taken) in omega arith
+
+loop-again-2 : tie.Need-loop-again-2 Inv-loop μ-loop
+loop-again-2 c =
+    let n = c .before .before .next-trigger in
+    let l = c .before .before .before .before in
+    let a = l .before .before .before .args in
+    (l .loop .inv .0, l .loop .inv .1, l .loop .inv .2, λ e. next-none (n .ensures) (large (a .terms .now) (a .set)) (c .if1 .left))
+
+returns-2 : tie.Need-returns-2 Inv-loop μ-loop
+returns-2 c = let l = c .before in sym (l .loop .inv .2 ∙ l .loop .inv .3 (c .loop-test .left))
+
+pub any-large-spec : {M : Type 1} → statement M
+any-large-spec =
+    tie.close
+    (tie.spec
+    Inv-loop
+    μ-loop
+    loop-holds
+    cast-next-trigger
+    next-trigger-requires
+    places-requires
+    returns
+    behind-requires
+    loop-less
+    loop-again
+    loop-less-2
+    loop-again-2
+    returns-2)
