@@ -16,7 +16,7 @@ use Rattle.rows.specs.Triggers.{atomFact}
 use Rattle.rows.specs.Outputs.{skolemRow, enterTerm, headNumber, enterTerms, enterAtom, enterAtoms}
 use Rattle.blocking.specs.Copies.{constantRow, argumentsIn, Copies, copyAll, copyTerm}
 use Rattle.blocking.specs.Origins.{enterBody, others, templateNumber, enterOrigin, enterOrigins}
-use Rattle.blocking.specs.Test.{datalogRows, close}
+use Rattle.closing.specs.Closing.{datalogRows, close}
 
 prefix-append {ℓ} : {A : Type ℓ} (xs ys : List A) → Prefix xs (xs ++ ys)
 prefix-append xs ys = record { rest = ys; whole = refl }
