@@ -8,3 +8,7 @@ pub mod RuleRow
 pub mod FormRow
 pub mod Reading
 pub mod Writing
+pub mod Spelling
+pub mod Places
+pub mod AtomWriting
+pub mod RuleWriting

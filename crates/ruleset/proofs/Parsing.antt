@@ -129,3 +129,7 @@ pub andThen-assoc : {A B C : Type 0} (parsed : Parsed A) (f : A → ℕ → Pars
 unfolding andThen
 andThen-assoc (good a i) f g = refl
 andThen-assoc (bad n p) f g = refl
+
+pub andThen-good : {A B : Type 0} (parsed : Parsed A) (k : A → ℕ → Parsed B) (a : A) (j : ℕ) → parsed ≡ good a j → andThen parsed k ≡ k a j
+unfolding andThen
+andThen-good parsed k a j e = rw e

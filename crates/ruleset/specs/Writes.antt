@@ -10,8 +10,8 @@ use Rattle.ruleset.specs.declared.Step.{Step}
 use Rattle.ruleset.specs.declared.Step.the-variants.{Good}
 
 -- the same bytes behind the length and before i
-abbrev pub Agree : List ℕ → ℕ → List ℕ → Type 0
-Agree bs i out = (k : ℕ) → 4 ≤ k → k < i → getD out k 0 ≡ getD bs k 0
+pub record Agree (bs : List ℕ) (i : ℕ) (out : List ℕ) : Type 0 where
+  pub at : (k : ℕ) → 4 ≤ k → k < i → getD out k 0 ≡ getD bs k 0
 
 pub record Written {A : Type 0} (keep : A → ℕ) (parsed : Parsed A) (bs rest : List ℕ) (r : Step) (out : List ℕ) : Type 0 where
   pub answer : r ≡ stepOf keep parsed
@@ -19,10 +19,20 @@ pub record Written {A : Type 0} (keep : A → ℕ) (parsed : Parsed A) (bs rest 
   pub left : (a : A) (j : ℕ) → parsed ≡ good a j → drop j bs ≡ rest
 
 -- `spelled` stands at i of whatever bytes are parsed
-abbrev pub Writes : {A : Type 0} → (A → ℕ) → (List ℕ → Parsed A) → ℕ → List ℕ → List ℕ → Step → List ℕ → Type 0
-Writes keep parser i spelled before r after =
-    (bs rest : List ℕ) → drop i bs ≡ spelled ++ rest → Agree bs i before → Written keep (parser bs) bs rest r after
+pub record Writes {A : Type 0} (keep : A → ℕ) (parser : List ℕ → Parsed A) (i : ℕ) (spelled before : List ℕ) (r : Step) (after : List ℕ) : Type 0 where
+  pub run : (bs rest : List ℕ) → drop i bs ≡ spelled ++ rest → Agree bs i before → Written keep (parser bs) bs rest r after
 
 -- at most w bytes
 pub record Ends (r : Step) (i w : ℕ) : Type 0 where
   pub most : (v j : ℕ) → r ≡ Good v j → j ≤ i + w
+
+-- a number of the range, as one byte
+pub record Took (r : Step) (v low high i : ℕ) : Type 0 where
+  pub same : (u j : ℕ) → r ≡ Good u j → u ≡ v
+  pub least : (u j : ℕ) → r ≡ Good u j → low ≤ v
+  pub most : (u j : ℕ) → r ≡ Good u j → v ≤ high
+  pub next : (u j : ℕ) → r ≡ Good u j → j ≡ i + 1
+
+-- arities that were all written are at most 4
+pub record Small (r : Step) (arities : List ℕ) : Type 0 where
+  pub each : (v j : ℕ) → r ≡ Good v j → (p : ℕ) → getD arities p 0 ≤ 4

@@ -1,6 +1,7 @@
 // Rule sets as bytes and as forms (document 01: book bytes, book form): the reader, the writer, and what a rule's variables say of it.
 // The contracts cite the definitions of model (`Format`, `Form`, `Rules`), through `specs/`.
 pub mod reader;
+pub mod writer;
 
 // What a parser answers: a value and where to go on, or a refusal and its place.
 pub enum Step {

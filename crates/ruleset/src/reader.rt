@@ -120,7 +120,7 @@ fn atoms(bytes: &[u8], arities: &[u16], i: usize, row: &mut [u16]) -> Step
 }
 
 // 1 for the empty set, else 0.
-fn lacks(set: u8) -> u8
+pub fn lacks(set: u8) -> u8
     ensures { λ r. ⌜ r ≡ lacking set ⌝ }
 {
     if set == 0 {
@@ -130,7 +130,7 @@ fn lacks(set: u8) -> u8
 }
 
 // 8 before 9, by the variables that stand in two disjuncts and the detached disjuncts.
-fn fault(again: u8, apart: u8) -> u8
+pub fn fault(again: u8, apart: u8) -> u8
     ensures { λ r. ⌜ r ≡ faultOf again apart ⌝ }
 {
     if again != 0 {
