@@ -3,7 +3,7 @@
 use mathlib.Core.Path.{_≡_, refl, sym, ap, ap₂, _∙_, subst}
 use mathlib.Core.Bool.{Bool, true, false, _&&_, _||_, not}
 use mathlib.Core.Logic.{_⊎_, inl, inr, ⊎-elim}
-use mathlib.Core.List.{List, [], _∷_, _++_, append-nil, List·Memᴰ, List·Memᴰ·head, List·Memᴰ·tail, List·Memᴰ·not-nil, List·Memᴰ·cases-cons}
+use mathlib.Core.List.{List, [], _∷_, _++_, List·Memᴰ, List·Memᴰ·head, List·Memᴰ·tail, List·Memᴰ·not-nil, List·Memᴰ·cases-cons}
 use Prim.Native.Nat.{ℕ, zero, suc, _+_, _-_, _*_, _/_, _%_, _^_, _≤_, _<_}
 use native.Mathlib.Nat.{pow-suc}
 use native.Mathlib.Decide.{decLt}
@@ -71,41 +71,6 @@ names-range : {v : ℕ} → List·Memᴰ v names → v < 8
 unfolding rising
 names-range m = rising-range 0 8 m
 
-getD-rising : (s k v : ℕ) → v < k → getD (rising s k) v 0 ≡ s + v
-unfolding rising
-getD-rising s zero v h = absurd (omega arith)
-getD-rising s (suc k) zero h = omega arith
-getD-rising s (suc k) (suc v) h = omega (arith, getD-rising (suc s) k v (omega arith))
-
-names-at : (v : ℕ) → v < 8 → getD names v 0 ≡ v
-unfolding rising
-names-at v h = omega (arith, getD-rising 0 8 v h)
-
--- one variable more
-
-keep-append : (p : ℕ → Bool) (xs ys : List ℕ) → keep p (xs ++ ys) ≡ keep p xs ++ keep p ys
-unfolding keep
-keep-append p [] ys = refl
-keep-append p (x ∷ xs) ys = go (keep-append p xs ys) (case (p x))
-  where
-    go : keep p (xs ++ ys) ≡ keep p xs ++ keep p ys → (p x ≡ true) ⊎ (p x ≡ false) → keep p (x ∷ (xs ++ ys)) ≡ keep p (x ∷ xs) ++ keep p ys
-    go e (inl t) = keep-yes p x (xs ++ ys) t ∙ ap (λ (zs : List ℕ). x ∷ zs) e ∙ ap (λ (zs : List ℕ). zs ++ keep p ys) (sym (keep-yes p x xs t))
-    go e (inr f) = keep-no p x (xs ++ ys) f ∙ e ∙ ap (λ (zs : List ℕ). zs ++ keep p ys) (sym (keep-no p x xs f))
-
-take-names : (v : ℕ) → v < 8 → take (v + 1) names ≡ take v names ++ (v ∷ [])
-take-names v h = ap (λ (m : ℕ). take m names) (add-one v) ∙ take-suc names v 0 h ∙ ap (λ (u : ℕ). take v names ++ (u ∷ [])) (names-at v h)
-
-pub kept-yes : (p : ℕ → Bool) (v : ℕ) → v < 8 → p v ≡ true → keep p (take (v + 1) names) ≡ keep p (take v names) ++ (v ∷ [])
-unfolding keep
-kept-yes p v h t =
-    ap (keep p) (take-names v h) ∙ keep-append p (take v names) (v ∷ []) ∙ ap (λ (ys : List ℕ). keep p (take v names) ++ ys) (keep-yes p v [] t)
-
-pub kept-no : (p : ℕ → Bool) (v : ℕ) → v < 8 → p v ≡ false → keep p (take (v + 1) names) ≡ keep p (take v names)
-unfolding keep
-kept-no p v h f =
-    ap (keep p) (take-names v h) ∙ keep-append p (take v names) (v ∷ []) ∙ ap (λ (ys : List ℕ). keep p (take v names) ++ ys) (keep-no p v [] f)
-    ∙ append-nil (keep p (take v names))
-
 pub length-keep : (p : ℕ → Bool) (xs : List ℕ) → length (keep p xs) ≤ length xs
 unfolding keep
 length-keep p [] = omega arith
@@ -114,10 +79,6 @@ length-keep p (x ∷ xs) = go (length-keep p xs) (case (p x))
     go : length (keep p xs) ≤ length xs → (p x ≡ true) ⊎ (p x ≡ false) → length (keep p (x ∷ xs)) ≤ suc (length xs)
     go h (inl t) = omega (arith, ap length (keep-yes p x xs t))
     go h (inr f) = omega (arith, ap length (keep-no p x xs f))
-
-pub few-elements : (x : ℕ) → length (elements x) ≤ 8
-unfolding elements
-few-elements x = length-keep (has x) names
 
 pub member-keep : (p : ℕ → Bool) (v : ℕ) → v ≤ 7 → member v (keep p names) ≡ p v
 member-keep p v h = go (case (p v))

@@ -6,4 +6,3 @@ pub mod Owners
 pub mod Places
 pub mod Rows
 pub mod Sets
-pub mod Templates

@@ -97,10 +97,6 @@ unfolding padded filled
 padded-filled n xs = refl
 
 module _ {A B : Type 0} where
-  pub map-more : (f : A → B) (xs : List A) (x : A) → map f (xs ++ (x ∷ [])) ≡ map f xs ++ (f x ∷ [])
-  map-more f [] x = refl
-  map-more f (y ∷ ys) x = ap (λ (zs : List B). f y ∷ zs) (map-more f ys x)
-
   pub map-spaced : (g : A → B) (f : ℕ → A) (width n at : ℕ) → map g (spaced f width n at) ≡ spaced (λ (p : ℕ). g (f p)) width n at
   unfolding spaced
   map-spaced g f width zero at = refl

@@ -1,12 +1,10 @@
 -- The numbering of Skolem functions by places: rule i has places 4 * i to 4 * i + 3, one for each disjunct that it has or could have.
 -- Assumes nothing.
 use mathlib.Core.Path.{_≡_}
-use mathlib.Core.Bool.{true, false}
-use mathlib.Core.List.{List, [], _∷_, map}
+use mathlib.Core.Bool.{true}
+use mathlib.Core.List.{List, []}
 use Prim.Native.Nat.{ℕ, zero, suc, _+_, _*_, _/_, _%_, _≤_, _<_}
-use lib.Dec.{eqb}
 use lib.ListN.{length, getD}
-use Rattle.model.specs.Lists.{index, member, padded}
 use Rattle.model.specs.Rules.{Disjunct, Entry, existential, entries, owns}
 use Rattle.model.specs.Form.{spaced, decoded}
 use Rattle.rules.specs.Places.{rulesOf, ruleOf, disjunctOf}
@@ -44,15 +42,3 @@ pub record Owned (form : List ℕ) (f i d : ℕ) : Type 0 where
   pub rule : i < length (rulesOf form)
   pub disjunct : d < length (ruleOf form i .head)
   pub owner : owns f (numberedOf form i d) ≡ true
-
--- the Skolem function of a variable of a disjunct; 0 for one that is not existential in it
-unfoldable pub functionOf : Disjunct → ℕ → ℕ
-functionOf d v =
-    elim (member v (existential (d .rule) (d .atoms))) [
-      | true ↦ d .before + suc (index eqb v (existential (d .rule) (d .atoms)))
-      | false ↦ 0
-    ]
-
--- the row of a Skolem term over the numbers of variables, but for its function
-unfoldable pub templateRow : List ℕ → List ℕ → List ℕ
-templateRow vs numbers = padded 10 (0 ∷ length vs ∷ map (λ (v : ℕ). getD numbers v 0) vs)

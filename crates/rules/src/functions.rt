@@ -3,21 +3,19 @@
 use crate::counts::disjunct_count;
 use crate::counts::rule_count;
 use crate::counts::wide;
-use crate::variables::contains;
 use crate::variables::existential_set;
 use crate::variables::rank;
 use crate::variables::skolem_count;
 ghost use mathlib.Core.Path.{_≡_};
 ghost use mathlib.Core.Bool.{true};
-ghost use mathlib.Core.List.{_++_, map};
+ghost use mathlib.Core.List.{_++_};
 ghost use Prim.Native.Nat.{suc, _+_, _*_, _≤_, _<_};
 ghost use lib.Dec.{eqb};
 ghost use lib.ListN.{length, getD, drop};
 ghost use Rattle.model.specs.Lists.{index, member};
-ghost use Rattle.model.specs.Rules.{names, existential};
+ghost use Rattle.model.specs.Rules.{existential};
 ghost use Rattle.rules.specs.Places.{Held, rulesOf, ruleOf, disjunctOf};
-ghost use Rattle.rules.specs.Sets.{elements};
-ghost use Rattle.rules.specs.Functions.{places, functionsAt, functionsBefore, numbering, numberedOf, functionOf, templateRow, Numbered, Owned};
+ghost use Rattle.rules.specs.Functions.{places, functionsAt, functionsBefore, numbering, numberedOf, Numbered, Owned};
 
 // How many Skolem functions the disjunct of a place has.
 fn functions_at(form: &[u16], j: usize) -> usize
@@ -88,40 +86,4 @@ pub fn skolem_function(form: &[u16], before: &[u16], i: usize, d: usize, v: u8) 
 {
     let place = rank(existential_set(form, i, d), v);
     wide(before[i * 4 + d]) + 1 + place
-}
-
-// The Skolem functions of the eight variables in disjunct `d` of rule `i`: 0 for a variable that is not existential there.
-pub fn skolem_functions(form: &[u16], before: &[u16], i: usize, d: usize) -> [u16; 8]
-    requires { ⌜ Held (now form) × Numbered (now form) (now before) × (i < length (rulesOf (now form))) × (d < length (ruleOf (now form) i .head)) ⌝ }
-    ensures { λ r. ⌜ r ≡ map (functionOf (numberedOf (now (form .entry)) i d)) names ⌝ }
-{
-    let set = existential_set(form, i, d);
-    let first = wide(before[i * 4 + d]);
-    let mut functions = [0u16; 8];
-    let mut v: u8 = 0;
-    while v < 8 {
-        if contains(set, v) {
-            functions[v as usize] = (first + 1 + rank(set, v)) as u16;
-        }
-        v += 1;
-    }
-    functions
-}
-
-// The row of a Skolem term over the numbers of a set of variables, but for its function.
-pub fn skolem_template(frontier: u8, numbers: [u16; 8]) -> [u16; 10]
-    ensures { λ r. ⌜ r ≡ templateRow (elements frontier) numbers ⌝ }
-{
-    let mut row = [0u16; 10];
-    let mut n: usize = 0;
-    let mut v: u8 = 0;
-    while v < 8 {
-        if contains(frontier, v) {
-            row[n + 2] = numbers[v as usize];
-            n += 1;
-        }
-        v += 1;
-    }
-    row[1] = n as u16;
-    row
 }
