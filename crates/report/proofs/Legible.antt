@@ -1,21 +1,21 @@
 -- The tables that the check leaves are legible: their rows are within them, and no arity is greater than a row has room for. Assumes nothing.
-use mathlib.Core.Path.{_≡_, refl, sym, ap, _∙_, subst}
-use mathlib.Core.List.{List, [], _∷_, _++_, map, List·Memᴰ}
-use Prim.Native.Nat.{ℕ, suc, _+_, _*_, _-_, _≤_, _<_}
+use mathlib.Core.Path.{_≡_, sym, ap, _∙_, subst}
+use mathlib.Core.List.{List, [], _++_}
+use Prim.Native.Nat.{ℕ, suc, _+_, _*_, _≤_, _<_}
 use native.Mathlib.Omega.{arith}
-use lib.ListN.{length, getD, replicate, length-append, length-map}
+use lib.ListN.{length, getD, length-append}
 use Rattle.model.specs.Lists.{collect, padded, row}
-use Rattle.model.specs.Term.{Term, Terms, star, list}
+use Rattle.model.specs.Term.{Term, star}
 use Rattle.model.specs.Triggers.{Fact}
 use Rattle.model.specs.Rules.{RuleSet}
 use Rattle.model.specs.WellFormed.{WellFormed}
 use Rattle.model.specs.Stages as stages
-use Rattle.model.specs.Tables.{Checked, number, termRow, factRow, recorded, left, checked}
+use Rattle.model.specs.Tables.{Checked, termRow, factRow, recorded, left, checked}
 use Rattle.format_laws.proofs.Lists.{getD-mem, length-collect}
 use Rattle.format_laws.proofs.Bytes.{read-well-formed}
 use Rattle.table_laws.proofs.Rows.{row-collect}
 use Rattle.table_laws.proofs.Terms.{Recordable, plain, marked, recordable-mem, length-termRow, row-table}
-use Rattle.table_laws.proofs.Facts.{Recordable as RecordableFact, length-factRow}
+use Rattle.table_laws.proofs.Facts.{length-factRow}
 use Rattle.table_laws.proofs.Recorded.{Recorded, terms-begin, facts-begin}
 use Rattle.table_laws.proofs.Fronts.{Within}
 use Rattle.table_laws.proofs.Courses.{Course, short, faulty, judged, course, left-verdict}

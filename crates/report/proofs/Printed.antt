@@ -1,13 +1,13 @@
 -- What `write_text` writes after a check, with the arities out of a form, is the text that the model gives, and 72,767 bytes have room for it.
 -- Assumes nothing.
-use mathlib.Core.Path.{_≡_, refl, sym, ap, _∙_, subst}
+use mathlib.Core.Path.{_≡_, refl, sym, ap, _∙_}
 use mathlib.Core.List.{List}
-use Prim.Native.Nat.{ℕ, _+_, _≤_}
+use Prim.Native.Nat.{ℕ, _≤_}
 use native.Mathlib.Omega.{arith}
 use lib.ListN.{length, getD}
 use Rattle.model.specs.Rules.{RuleSet}
 use Rattle.model.specs.Format.{good, read}
-use Rattle.model.specs.Stages.{Verdict, refused}
+use Rattle.model.specs.Stages.{refused}
 use Rattle.model.specs.Tables.{Checked, checked}
 use Rattle.model.specs.Text.{text, declared, textOf}
 use Rattle.table_laws.proofs.Courses.{Course, short, faulty, judged, course}

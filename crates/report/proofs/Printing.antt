@@ -1,15 +1,15 @@
 -- What `print` leaves is what the definition gives: for a list too short, and for an answer of the check whose text was written. Assumes nothing.
-use mathlib.Core.Path.{_≡_, refl, sym, ap, _∙_, subst}
+use mathlib.Core.Path.{_≡_, sym, ap, _∙_, subst}
 use mathlib.Core.Bool.{Bool, true, false, _&&_}
 use mathlib.Core.Logic.{_⊎_, inl, inr}
 use mathlib.Core.List.{List, _++_}
-use Prim.Native.Nat.{ℕ, _+_, _≤_, _<_}
+use Prim.Native.Nat.{ℕ, _≤_, _<_}
 use native.Mathlib.Nat.{zero-add}
 use native.Mathlib.Omega.{arith}
-use lib.ListN.{length, take, drop}
+use lib.ListN.{length, drop}
 use lib.Dec.{leb}
 use borrow.Author.Tests.{le-leb, lt-leb, leb-true}
-use Rattle.model.specs.Form.{Transfer, done, refusal}
+use Rattle.model.specs.Form.{done, refusal}
 use Rattle.model.specs.Tables.{Checked, checked, termsFront, factsFront}
 use Rattle.model.specs.Text.{text, textOf}
 use Rattle.verdict.specs.declared.Verdict.{Verdict}

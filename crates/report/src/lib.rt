@@ -1,9 +1,9 @@
 // The text of an answer, byte by byte. Every function writes into `out` from a place on and answers the place behind what it wrote. The
-// contracts cite the model's Text, and specs/Writing and specs/Legible.
+// contracts cite the model's Text, and specs/Writing, specs/Legible and specs/Printing.
 use verdict::Verdict;
 ghost use mathlib.Core.Path.{_≡_};
 ghost use mathlib.Core.List.{[], _∷_, _++_};
-ghost use Prim.Native.Nat.{suc, _+_, _≤_, _<_};
+ghost use Prim.Native.Nat.{suc, _≤_};
 ghost use lib.ListN.{length};
 ghost use Rattle.model.specs.Text.{decimal, line, refusedWord, termWord, factWord, loopWord, termNumbers, factNumbers, records, text, textOf};
 ghost use Rattle.verdict.specs.Verdict.{meant};

@@ -1,9 +1,9 @@
 -- `report::write_answer` meets its contract: the form that was read has the arities, and the tables of an answer are legible. Assumes nothing.
-use mathlib.Core.Path.{_≡_, ap, subst}
+use mathlib.Core.Path.{ap, subst}
 use mathlib.Core.List.{List}
 use Prim.Native.Nat.{ℕ}
 use native.Mathlib.Omega.{arith}
-use lib.ListN.{length, take, drop, replicate, length-replicate}
+use lib.ListN.{take, drop, replicate, length-replicate}
 use Rattle.model.specs.Form.{aritiesPlace, Reading}
 use Rattle.report.proofs.Arities.{Declares, reading-declares}
 use Rattle.report.proofs.Printing.{answer-legible, answer-text, answer-room}

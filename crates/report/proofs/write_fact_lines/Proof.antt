@@ -1,6 +1,5 @@
 -- `report::write_fact_lines` meets its contract. The loop's invariant: the first `i` lines are written. Assumes nothing.
 use mathlib.Core.Path.{_≡_, refl, _∙_}
-use mathlib.Core.List.{_∷_}
 use Prim.Native.Nat.{ℕ, _-_, _≤_}
 use native.Mathlib.Omega.{arith}
 use lib.ListN.{length}
