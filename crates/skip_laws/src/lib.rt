@@ -1,0 +1,1 @@
+// laws of the triggers that are passed over, in proofs/
