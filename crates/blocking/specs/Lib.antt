@@ -1,4 +1,5 @@
 pub mod Copies
 pub mod Copying
 pub mod Origins
+pub mod Origin
 pub mod Test
