@@ -5,3 +5,4 @@ pub mod Outputs
 pub mod Agree
 pub mod Template
 pub mod Entering
+pub mod Origins
