@@ -6,3 +6,11 @@ pub mod Bodies
 pub mod Sizes
 pub mod Steps
 pub mod Cyclic
+pub mod Entering
+pub mod Going
+pub mod Passing
+pub mod Disjuncts
+pub mod Placed
+pub mod Handled
+pub mod First
+pub mod Fronts

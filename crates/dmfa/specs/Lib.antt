@@ -1,2 +1,3 @@
 pub mod Large
 pub mod Looping
+pub mod Making
