@@ -14,3 +14,4 @@ pub mod Placed
 pub mod Handled
 pub mod First
 pub mod Fronts
+pub mod Stays
