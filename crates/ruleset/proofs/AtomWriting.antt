@@ -1,11 +1,10 @@
 -- Atoms, as they are written. Assumes nothing.
 use mathlib.Core.Path.{_≡_, refl, sym, ap, _∙_, subst}
 use mathlib.Core.List.{List, [], _∷_, _++_}
-use Prim.Native.Nat.{ℕ, suc, _+_, _-_, _≤_, _<_}
+use Prim.Native.Nat.{ℕ, suc, _+_, _-_, _≤_}
 use native.Mathlib.Omega.{arith}
 use lib.ListN.{length, getD}
 use Rattle.model.specs.Lists.{numbersFrom, collect}
-use Rattle.model.specs.Rules.{Atom}
 use Rattle.model.specs.Format.{Parsed, good, andThen, many, byte, variable, atom, atoms, atomBytes, atomsBytes}
 use Rattle.model.specs.Form.{spaced, atomAt, groupAt}
 use Rattle.ruleset.specs.Sets.{setOf}
@@ -13,7 +12,8 @@ use Rattle.ruleset.specs.Step.{value, atomSet, atomsSet}
 use Rattle.ruleset.specs.Writes.{Writes, Took, Ends}
 use Rattle.ruleset.specs.declared.Step.{Step}
 use Rattle.ruleset.specs.declared.Step.the-variants.{Good, Bad}
-use Rattle.ruleset.proofs.Places.{numbers-at, numbers-length}
+use Rattle.format_laws.proofs.Places.{numbersFrom-length}
+use Rattle.ruleset.proofs.Places.{numbers-at}
 use Rattle.ruleset.proofs.Spelling.{spaced-length}
 use Rattle.ruleset.proofs.Writing.{writes-refused, writes-then, writes-map, writes-as}
 
@@ -31,7 +31,7 @@ module _ (form : List ℕ) (n at i v : ℕ) (before mid : List ℕ) (r : Step) w
 
     module _ (h : Writes value (λ bs. byte bs 0 (n - 1) 7 i) i (v ∷ []) before r mid) where
       first : Writes value (λ bs. byte bs 0 (length arities - 1) 7 i) i (v ∷ []) before r mid
-      first = rw (numbers-length form 6786 n) h
+      first = rw (numbersFrom-length form 6786 n) h
 
       pub atom-refused : (m p : ℕ) (after : List ℕ) → r ≡ Bad m p → Writes atomSet (λ bs. atom bs arities i) i (atomBytes (atomAt form arities at)) before r after
       unfolding atom

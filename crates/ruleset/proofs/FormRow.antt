@@ -1,23 +1,21 @@
 -- The form that the reader fills: the count of the predicates, the rules, and the arities. Assumes nothing.
 use mathlib.Core.Path.{_≡_, refl, sym, ap, _∙_, subst}
-use mathlib.Core.Bool.{true, false}
-use mathlib.Core.List.{List, [], _∷_, _++_, append-assoc, append-nil}
-use Prim.Native.Nat.{ℕ, suc, _+_, _-_, _≤_, _<_}
+use mathlib.Core.List.{List, [], _∷_, _++_, append-nil}
+use Prim.Native.Nat.{ℕ, suc, _-_, _≤_}
 use native.Mathlib.Omega.{arith}
-use lib.Dec.{eqb}
 use lib.ListN.{length, take, drop, set, length-append, length-set}
 use lib.Seq.{take-at, drop-at}
 use borrow.Author.Tests.{eq-eqb, ne-eqb}
 use borrow.Rule.Slice.PartMut.{same-len-mid}
 use Rattle.model.specs.Lists.{padded, collect}
 use Rattle.model.specs.Rules.{Rule, RuleSet}
-use Rattle.model.specs.Format.{Parsed, good, bad, andThen, many, byte, rule, ruleSet}
+use Rattle.model.specs.Format.{Parsed, good, many, byte, ruleSet}
 use Rattle.model.specs.Form.{ruleRow, encoded}
 use Rattle.ruleset.specs.Step.{zeros, Filled, none, Arities, parsedRules, rulesRow, afterArities}
 use Rattle.ruleset.specs.declared.Step.{Step}
 use Rattle.ruleset.specs.declared.Step.the-variants.{Good, Bad}
 use Rattle.ruleset.proofs.Lists.{zeros-suc, length-zeros, zeros-length, drop-zeros, take-zeros, padded-zeros}
-use Rattle.ruleset.proofs.Parsing.{continues, filled-good, filled-bad, andThen-assoc, Within, byte-good}
+use Rattle.ruleset.proofs.Parsing.{continues, filled-good, filled-bad, andThen-assoc, byte-good}
 use Rattle.ruleset.proofs.Many.{many-length, many-at}
 
 -- the lists that the form goes through: the count is set, the arities are copied, the rules are filled

@@ -2,21 +2,21 @@
 -- Assumes nothing.
 use mathlib.Core.Path.{_≡_, refl, sym, ap, _∙_}
 use mathlib.Core.Bool.{Bool, true, false, _&&_, _||_, not}
-use mathlib.Core.Logic.{_⊎_, inl, inr, ⊎-elim}
+use mathlib.Core.Logic.{_⊎_, inl, inr}
 use mathlib.Core.List.{List, [], _∷_, _++_, List·Memᴰ}
-use Prim.Native.Nat.{ℕ, zero, suc, _+_, _-_, _≤_, _<_}
+use Prim.Native.Nat.{ℕ, _-_, _≤_, _<_}
 use native.Mathlib.Decide.{decLt}
 use native.Mathlib.Omega.{arith}
 use lib.Dec.{eqb, leb}
 use lib.Bits.{bitOr, bitAnd, or-add-and, and-le-l, and-le-r}
 use borrow.Author.Tests.{eq-eqb, ne-eqb, leb-true, not-true}
-use Rattle.model.specs.Lists.{all, any, keep, member}
+use Rattle.model.specs.Lists.{all, any, member}
 use Rattle.model.specs.Rules.{Atom, Rule, variablesOf, names, inBody, existential, repeated, detached}
 use Rattle.model.specs.Format.{Parsed, good, bad, sound}
-use Rattle.laws.proofs.Bools.{case, not-both, and-true, true-and, or-true, or-left, or-right, is-false}
+use Rattle.laws.proofs.Bools.{case, not-both, and-true, true-and, is-false}
 use Rattle.laws.proofs.Lists.{any-mem, mem-any, all-mem, keep-mem, member-mem, mem-member}
-use Rattle.laws.proofs.Rules.{existential-mem, mem-existential, inBody-mem, mem-inBody}
-use Rattle.ruleset.specs.Sets.{setOf, has}
+use Rattle.laws.proofs.Rules.{existential-mem, mem-existential}
+use Rattle.ruleset.specs.Sets.{has}
 use Rattle.ruleset.specs.Step.{atomsSet}
 use Rattle.ruleset.specs.Heads.{lacking, faultBy, faultOf, fault}
 use Rattle.ruleset.proofs.Sets.{has-or, has-and, has-zero, has-setOf, empty-is, has-beyond, has-complement}

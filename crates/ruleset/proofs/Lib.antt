@@ -12,3 +12,6 @@ pub mod Spelling
 pub mod Places
 pub mod AtomWriting
 pub mod RuleWriting
+pub mod ContentWriting
+pub mod Bytes
+pub mod RoundTrip

@@ -4,7 +4,7 @@ use mathlib.Core.List.{List, [], _∷_, _++_, append-nil}
 use Prim.Native.Nat.{ℕ, zero, suc, _+_, _-_, _≤_, _<_}
 use native.Mathlib.Omega.{arith}
 use native.Mathlib.Numerals.{add-one}
-use lib.ListN.{length, getD, take, drop, set, replicate, length-replicate, length-set}
+use lib.ListN.{length, getD, take, drop, set, length-replicate, length-set}
 use lib.Seq.{set-split, drop-drop, drop-cons, take-suc, take-length, append-snoc, set-at, length-take-le}
 use borrow.Rule.Slice.PartMut.{same-len-mid}
 use Rattle.model.specs.Lists.{collect, padded}

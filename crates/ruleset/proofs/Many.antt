@@ -14,7 +14,7 @@ use Rattle.ruleset.specs.Step.{stepOf, zeros, Filled}
 use Rattle.ruleset.specs.declared.Step.{Step}
 use Rattle.ruleset.specs.declared.Step.the-variants.{Good, Bad}
 use Rattle.ruleset.proofs.Lists.{drop-zeros, take-zeros, padded-zeros, single, set-part, collect-single}
-use Rattle.ruleset.proofs.Parsing.{Parses, bad-is-not-good, step-good, step-bad}
+use Rattle.ruleset.proofs.Parsing.{bad-is-not-good, step-good, step-bad}
 
 module _ {A : Type 0} where
   abbrev after : List A → Parsed (List A) → Parsed (List A)

@@ -1,12 +1,10 @@
 -- Laws of the definitions' parsers, by cases, and what a step of the code says of a parse. Assumes nothing.
-use mathlib.Core.Path.{_≡_, refl, sym, ap, _∙_, subst}
-use mathlib.Core.Bool.{true, false, _&&_}
+use mathlib.Core.Path.{_≡_, refl, sym, ap, _∙_}
 use mathlib.Core.List.{List}
-use Prim.Native.Nat.{ℕ, suc, _+_, _≤_, _<_}
+use Prim.Native.Nat.{ℕ, _+_, _≤_, _<_}
 use native.Mathlib.Omega.{arith}
 use native.Mathlib.Numerals.{add-one}
 use native.Mathlib.Decide.{decLt}
-use lib.Dec.{ltb, leb}
 use lib.ListN.{length, getD}
 use borrow.Author.Tests.{lt-ltb, le-ltb, le-leb, lt-leb}
 use Rattle.model.specs.Format.{Parsed, good, bad, andThen, byte, variable}
@@ -63,7 +61,8 @@ step-value parsed v i e = let h = step-good value parsed v i e in h .parse ∙ a
 
 -- the bounds of a byte that was read
 
-pub record Within (low high i v j : ℕ) : Type 0 where
+pub record Within (bs : List ℕ) (low high i v j : ℕ) : Type 0 where
+  pub value : v ≡ getD bs i 0
   pub least : low ≤ v
   pub most : v ≤ high
   pub next : j ≡ i + 1
@@ -71,10 +70,10 @@ pub record Within (low high i v j : ℕ) : Type 0 where
 pub bad-is-not-good : {A : Type 0} {P : Type 0} (parsed : Parsed A) (n p : ℕ) (a : A) (j : ℕ) → parsed ≡ bad n p → parsed ≡ good a j → P
 bad-is-not-good parsed n p a j e f = absurd (let z : _≡_ {A = ℕ} 0 1 = cc in omega arith)
 
-pub byte-good : (bs : List ℕ) (low high refusal i v j : ℕ) → byte bs low high refusal i ≡ good v j → Within low high i v j
+pub byte-good : (bs : List ℕ) (low high refusal i v j : ℕ) → byte bs low high refusal i ≡ good v j → Within bs low high i v j
 byte-good bs low high refusal i v j e = go (decLt i (length bs)) (decLt (getD bs i 0) low) (decLt high (getD bs i 0))
   where
-    go : Dec (i < length bs) → Dec (getD bs i 0 < low) → Dec (high < getD bs i 0) → Within low high i v j
+    go : Dec (i < length bs) → Dec (getD bs i 0 < low) → Dec (high < getD bs i 0) → Within bs low high i v j
     go (no h) k l = bad-is-not-good _ _ _ _ _ (byte-ended bs low high refusal i (omega arith)) e
     go (yes h) (yes k) l = bad-is-not-good _ _ _ _ _ (byte-below bs low high refusal i h k) e
     go (yes h) (no k) (yes l) = bad-is-not-good _ _ _ _ _ (byte-above bs low high refusal i h (omega arith) l) e
@@ -82,9 +81,9 @@ byte-good bs low high refusal i v j e = go (decLt i (length bs)) (decLt (getD bs
         let g : good (getD bs i 0) (i + 1) ≡ good v j = sym (byte-within bs low high refusal i h (omega arith) (omega arith)) ∙ e in
         let f : getD bs i 0 ≡ v = cc in
         let n : i + 1 ≡ j = cc in
-        record { least = omega arith; most = omega arith; next = sym n }
+        record { value = sym f; least = omega arith; most = omega arith; next = sym n }
 
-pub variable-good : (bs : List ℕ) (i v j : ℕ) → variable bs i ≡ good v j → Within 0 7 i v j
+pub variable-good : (bs : List ℕ) (i v j : ℕ) → variable bs i ≡ good v j → Within bs 0 7 i v j
 unfolding variable
 variable-good bs i v j e = byte-good bs 0 7 7 i v j e
 

@@ -1,16 +1,15 @@
 -- The rows that the parsers of an atom, of atoms and of a rule fill. Assumes nothing.
 use mathlib.Core.Path.{_≡_, refl, sym, ap, _∙_}
 use mathlib.Core.List.{List, [], _∷_, _++_, append-nil}
-use Prim.Native.Nat.{ℕ, suc, _+_, _-_, _≤_, _<_}
-use native.Mathlib.Omega.{arith}
+use Prim.Native.Nat.{ℕ, suc, _-_}
 use lib.ListN.{length, getD, take, drop, set}
 use lib.Bits.{bitOr}
 use Rattle.model.specs.Lists.{padded, collect}
-use Rattle.model.specs.Rules.{Atom, Rule, variablesOf}
-use Rattle.model.specs.Format.{Parsed, good, bad, andThen, many, byte, variable, atom, atoms}
+use Rattle.model.specs.Rules.{Atom, variablesOf}
+use Rattle.model.specs.Format.{Parsed, good, many, byte, variable, atom, atoms}
 use Rattle.model.specs.Form.{atomRow, group}
 use Rattle.ruleset.specs.Sets.{setOf}
-use Rattle.ruleset.specs.Step.{stepOf, zeros, Filled, atomSet, atomsSet}
+use Rattle.ruleset.specs.Step.{zeros, Filled, atomSet, atomsSet}
 use Rattle.ruleset.specs.declared.Step.{Step}
 use Rattle.laws.proofs.Lists.{collect-append}
 use Rattle.ruleset.proofs.Sets.{setOf-append}

@@ -1,21 +1,21 @@
 -- The row of a rule: its body's group, the count of its disjuncts, and their groups. Assumes nothing.
 use mathlib.Core.Path.{_≡_, refl, sym, ap, _∙_}
-use mathlib.Core.List.{List, [], _∷_, _++_, append-assoc, append-nil}
-use Prim.Native.Nat.{ℕ, suc, _+_, _-_, _≤_, _<_}
+use mathlib.Core.List.{List, _∷_, _++_, append-assoc, append-nil}
+use Prim.Native.Nat.{ℕ, suc, _+_, _-_, _≤_}
 use native.Mathlib.Omega.{arith}
 use lib.ListN.{length, take, drop, set, length-append, length-set}
 use lib.Seq.{take-at, drop-at}
 use borrow.Rule.Slice.PartMut.{same-len-mid}
 use Rattle.model.specs.Lists.{padded, collect}
-use Rattle.model.specs.Rules.{Atom, Rule}
-use Rattle.model.specs.Format.{Parsed, good, bad, andThen, many, byte, atoms, rule}
+use Rattle.model.specs.Rules.{Atom}
+use Rattle.model.specs.Format.{good, bad, many, byte, atoms, rule}
 use Rattle.model.specs.Form.{group, ruleRow}
 use Rattle.ruleset.specs.Step.{zeros, Filled, none, parsedRules, rulesRow}
 use Rattle.ruleset.specs.Heads.{fault}
 use Rattle.ruleset.specs.declared.Step.{Step}
 use Rattle.ruleset.specs.declared.Step.the-variants.{Good, Bad}
-use Rattle.ruleset.proofs.Lists.{zeros-suc, length-zeros, zeros-length, drop-zeros, take-zeros, padded-zeros}
-use Rattle.ruleset.proofs.Parsing.{continues, refuses, filled-good, filled-bad}
+use Rattle.ruleset.proofs.Lists.{zeros-suc, length-zeros, drop-zeros, take-zeros, padded-zeros}
+use Rattle.ruleset.proofs.Parsing.{continues, filled-good, filled-bad}
 use Rattle.ruleset.proofs.Rows.{counted-filled}
 use Rattle.ruleset.proofs.Heads.{of, sound-good, sound-bad}
 
@@ -72,7 +72,7 @@ module _ (row : List ℕ) (z : row ≡ zeros 106) where
         let s : length (length ds ∷ (group b ++ collect group ds)) ≡ suc (21 + length (collect group ds)) = rw (length-append, w) in
         let m : 106 - suc (21 + length (collect group ds)) ≡ 84 - length (collect group ds) = omega arith in
         headed-is heads
-        ∙ rw (f, padded-zeros, padded-zeros, s, m, e, g)
+        ∙ rw (f, padded-zeros 84 (collect group ds), padded-zeros, s, m, e, g)
         (ap (λ (xs : List ℕ). n ∷ xs) (sym (append-assoc (group b) (collect group ds) (zeros (84 - length (collect group ds))))))
 
 -- the parse of a rule, once all of it is read

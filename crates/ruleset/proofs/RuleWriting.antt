@@ -1,19 +1,19 @@
 -- Rules, as they are written. Assumes nothing.
 use mathlib.Core.Path.{_≡_, refl, sym, ap, _∙_, subst}
 use mathlib.Core.List.{List, [], _∷_, _++_}
-use Prim.Native.Nat.{ℕ, suc, _+_, _-_, _≤_, _<_}
+use Prim.Native.Nat.{ℕ, suc, _+_}
 use native.Mathlib.Omega.{arith}
 use lib.ListN.{length, getD, drop}
 use Rattle.model.specs.Lists.{collect}
 use Rattle.model.specs.Rules.{Atom, Rule}
-use Rattle.model.specs.Format.{Parsed, good, bad, andThen, many, byte, atoms, sound, rule, atomsBytes, ruleBytes}
+use Rattle.model.specs.Format.{Parsed, bad, andThen, many, byte, atoms, sound, rule, atomsBytes, ruleBytes}
 use Rattle.model.specs.Form.{spaced, groupAt, ruleAt}
 use Rattle.ruleset.specs.Step.{value, none, atomsSet}
 use Rattle.ruleset.specs.Heads.{fault}
 use Rattle.ruleset.specs.Writes.{Agree, Written, Writes, Took}
 use Rattle.ruleset.specs.declared.Step.{Step}
 use Rattle.ruleset.specs.declared.Step.the-variants.{Good, Bad}
-use Rattle.ruleset.proofs.Parsing.{Parses, step-good, step-bad, andThen-good}
+use Rattle.ruleset.proofs.Parsing.{step-good, step-bad, andThen-good}
 use Rattle.ruleset.proofs.Heads.{of, sound-good, sound-bad}
 use Rattle.ruleset.proofs.Spelling.{spaced-length}
 use Rattle.ruleset.proofs.Writing.{written-bad, written-good, writes-refused, writes-then, writes-as}

@@ -1,7 +1,7 @@
 -- What is written, by the parts that it is made of. Assumes nothing.
-use mathlib.Core.Path.{_≡_, refl, sym, ap, _∙_, subst}
-use mathlib.Core.List.{List, [], _∷_, _++_, append-assoc, append-nil}
-use Prim.Native.Nat.{ℕ, suc, _+_, _-_, _≤_, _<_}
+use mathlib.Core.Path.{_≡_, refl, sym, ap, ap₂, _∙_, subst}
+use mathlib.Core.List.{List, [], _∷_, _++_, append-assoc}
+use Prim.Native.Nat.{ℕ, zero, suc, _+_, _≤_, _<_}
 use native.Mathlib.Omega.{arith}
 use native.Mathlib.Decide.{decLt}
 use lib.ListN.{length, getD, drop, set}
@@ -12,7 +12,7 @@ use Rattle.ruleset.specs.Step.{stepOf, value}
 use Rattle.ruleset.specs.Writes.{Agree, Written, Writes, Ends, Took, Small}
 use Rattle.ruleset.specs.declared.Step.{Step}
 use Rattle.ruleset.specs.declared.Step.the-variants.{Good, Bad}
-use Rattle.ruleset.proofs.Parsing.{Parses, step-good, step-bad, bad-is-not-good, byte-below, byte-above, byte-within}
+use Rattle.ruleset.proofs.Parsing.{step-good, step-bad, bad-is-not-good, byte-below, byte-above, byte-within, byte-good, andThen-good}
 use Rattle.ruleset.proofs.Many.{Progress, begun, more, ended, refused}
 
 -- a refusal and a value
@@ -198,3 +198,43 @@ module _ {A S : Type 0} (p : List ℕ → ℕ → Parsed A) (Kept : List A → S
             let c = w .run bs rest d g in
             written-good whole _ bs rest (c .parsed .done) v j now (ended (p bs) Kept nothing n i [] k j 0 s [] (c .parsed) h) (f (c .parsed .done) (c .parsed .kept)) (c .stored)
             (c .left ∙ ap (λ (xs : List ℕ). xs ++ rest) t)
+
+-- one part after another, where what the first part spells is its value
+pub writes-exact : {A B : Type 0} (keepA : A → ℕ) (keep : B → ℕ) (first : List ℕ → Parsed A) (then : List ℕ → A → ℕ → Parsed B) (i : ℕ) (spelledA spelledB before : List ℕ) (r : Step) (mid : List ℕ)
+    → Writes keepA first i spelledA before r mid → (v j : ℕ) (s : Step) (after : List ℕ) → r ≡ Good v j → (x : A)
+    → ((bs rest : List ℕ) (a : A) → drop i bs ≡ spelledA ++ rest → first bs ≡ good a j → a ≡ x) → Writes keep (λ bs. then bs x j) j spelledB mid s after
+    → Writes keep (λ bs. andThen (first bs) (then bs)) i (spelledA ++ spelledB) before s after
+writes-exact {A} {B} keepA keep first then i spelledA spelledB before r mid h v j s after e x pin f = record { run = λ bs rest d g. go bs rest d g }
+  where
+    go : (bs rest : List ℕ) → drop i bs ≡ (spelledA ++ spelledB) ++ rest → Agree bs i before → Written keep (andThen (first bs) (then bs)) bs rest s after
+    go bs rest d g =
+        let d′ : drop i bs ≡ spelledA ++ (spelledB ++ rest) = d ∙ append-assoc spelledA spelledB rest in
+        let w = h .run bs (spelledB ++ rest) d′ g in
+        let a = step-good keepA (first bs) v j (sym e ∙ w .answer) in
+        let same : a .result ≡ x = pin bs (spelledB ++ rest) (a .result) d′ (a .parse) in
+        let p : first bs ≡ good x j = a .parse ∙ ap (λ (y : A). good y j) same in
+        subst (λ (o : Parsed B). Written keep o bs rest s after) (sym (andThen-good (first bs) (then bs) x j p))
+        (f .run bs rest (w .left (a .result) j (a .parse)) (w .stored (a .result) j (a .parse)))
+
+-- numbers that were parsed are those that are spelled
+pub spelled-numbers : (low high refusal n : ℕ) (bs xs rest as' : List ℕ) (i j : ℕ) → length xs ≡ n → drop i bs ≡ xs ++ rest → many n (byte bs low high refusal) i ≡ good as' j → as' ≡ xs
+unfolding many andThen
+spelled-numbers low high refusal zero bs [] rest as' i j l d e = let f : [] ≡ as' = cc in sym f
+spelled-numbers low high refusal zero bs (x ∷ xs) rest as' i j l d e = absurd (omega arith)
+spelled-numbers low high refusal (suc n) bs [] rest as' i j l d e = absurd (omega arith)
+spelled-numbers low high refusal (suc n) bs (x ∷ xs) rest as' i j l d e =
+    go (byte bs low high refusal i) refl (λ k ys m f. spelled-numbers low high refusal n bs xs rest ys k m (omega arith) f) e
+  where
+    last : (v k : ℕ) (o : Parsed (List ℕ)) → x ≡ v → ((ys : List ℕ) (m : ℕ) → o ≡ good ys m → ys ≡ xs) → andThen o (λ ys m. good (v ∷ ys) m) ≡ good as' j → as' ≡ x ∷ xs
+    last v k (good ys m) s f g = let h : v ∷ ys ≡ as' = cc in sym h ∙ ap₂ (λ (a : ℕ) (b : List ℕ). a ∷ b) (sym s) (f ys m refl)
+    last v k (bad m q) s f g = bad-is-not-good (bad m q) m q as' j refl g
+
+    go : (o : Parsed ℕ) → byte bs low high refusal i ≡ o → ((k : ℕ) (ys : List ℕ) (m : ℕ) → drop k bs ≡ xs ++ rest → many n (byte bs low high refusal) k ≡ good ys m → ys ≡ xs)
+        → andThen o (λ a k. andThen (many n (byte bs low high refusal) k) (λ bs′ l. good (a ∷ bs′) l)) ≡ good as' j → as' ≡ x ∷ xs
+    go (good v k) p f g =
+        let w = byte-good bs low high refusal i v k p in
+        let (h, s) = drop-place bs i x (xs ++ rest) d in
+        let next : k ≡ i + 1 = w .next in
+        let past : drop k bs ≡ xs ++ rest = ap (λ (y : ℕ). drop y bs) next ∙ drop-past bs (x ∷ []) (xs ++ rest) i d in
+        last v k (many n (byte bs low high refusal) k) (sym s ∙ sym (w .value)) (λ ys m t. f k ys m past t) g
+    go (bad m q) p f g = bad-is-not-good (bad m q) m q as' j refl g

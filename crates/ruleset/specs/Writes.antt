@@ -1,11 +1,14 @@
 -- What the writer's functions answer and leave: the parse of any bytes that spell the same, and a list that agrees with those bytes so far.
 -- Assumes nothing.
 use mathlib.Core.Path.{_≡_}
-use mathlib.Core.List.{List, _++_}
-use Prim.Native.Nat.{ℕ, _+_, _≤_, _<_}
-use lib.ListN.{getD, drop}
-use Rattle.model.specs.Format.{Parsed, good}
-use Rattle.ruleset.specs.Step.{stepOf}
+use mathlib.Core.List.{List, _∷_, _++_}
+use Prim.Native.Nat.{ℕ, _+_, _/_, _%_, _≤_, _<_}
+use lib.ListN.{length, getD, drop, set}
+use Rattle.model.specs.Lists.{collect}
+use Rattle.model.specs.Rules.{Rule, RuleSet}
+use Rattle.model.specs.Format.{Parsed, good, andThen, many, byte, ruleBytes}
+use Rattle.model.specs.Form.{spaced, ruleAt}
+use Rattle.ruleset.specs.Step.{stepOf, parsedRules}
 use Rattle.ruleset.specs.declared.Step.{Step}
 use Rattle.ruleset.specs.declared.Step.the-variants.{Good}
 
@@ -36,3 +39,23 @@ pub record Took (r : Step) (v low high i : ℕ) : Type 0 where
 -- arities that were all written are at most 4
 pub record Small (r : Step) (arities : List ℕ) : Type 0 where
   pub each : (v j : ℕ) → r ≡ Good v j → (p : ℕ) → getD arities p 0 ≤ 4
+
+-- parts of model's `content`, `decoded` and `ruleSet`
+
+unfoldable pub rulesBytes : List Rule → List ℕ
+rulesBytes rs = length rs ∷ collect ruleBytes rs
+
+unfoldable pub rulesAt : List ℕ → List ℕ → List Rule
+rulesAt form arities = spaced (ruleAt form arities) 106 (getD form 1 0) 2
+
+-- all but the test that the bytes end there
+unfoldable pub parsedContent : List ℕ → Parsed RuleSet
+parsedContent bs =
+    andThen (byte bs 1 1 3 4) (λ v i.
+    andThen (byte bs 1 64 4 i) (λ n j.
+    andThen (many n (byte bs 1 4 4) j) (λ arities k.
+    andThen (parsedRules bs arities k) (λ rs e. good (record { arities = arities; rules = rs }) e))))
+
+-- a list with a length below 65536 in its first four places, big-endian
+abbrev pub lengthened : List ℕ → ℕ → List ℕ
+lengthened out n = set (set (set (set out 0 0) 1 0) 2 (n / 256)) 3 (n % 256)

@@ -1,5 +1,6 @@
 // Rule sets as bytes and as forms (document 01: book bytes, book form): the reader, the writer, and what a rule's variables say of it.
 // The contracts cite the definitions of model (`Format`, `Form`, `Rules`), through `specs/`.
+pub mod faults;
 pub mod reader;
 pub mod writer;
 

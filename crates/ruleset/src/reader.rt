@@ -2,6 +2,7 @@
 // of zeros that its caller lends. Contracts: `stepOf` of specs/Step.antt.
 use crate::Step;
 use crate::Transfer;
+use crate::faults;
 ghost use mathlib.Core.Path.{_≡_};
 ghost use mathlib.Core.List.{List, _++_};
 ghost use Prim.Native.Nat.{ℕ, _+_, _-_, _≤_, _<_};
@@ -14,7 +15,7 @@ ghost use Rattle.model.specs.Format as format;
 ghost use Rattle.ruleset.specs.Step.{stepOf, value, none, parsedRules, rulesRow, afterArities, zeros, Filled, Arities, atomSet, atomsSet};
 ghost use Rattle.ruleset.specs.Transfer.{transferOf};
 ghost use Rattle.ruleset.specs.Sets.{setOf};
-ghost use Rattle.ruleset.specs.Heads.{lacking, faultOf, fault as faulty};
+ghost use Rattle.ruleset.specs.Heads.{fault as faulty};
 
 // A byte from low to high at i.
 pub fn byte(bytes: &[u8], low: u8, high: u8, refusal: u8, i: usize) -> Step
@@ -119,29 +120,6 @@ fn atoms(bytes: &[u8], arities: &[u16], i: usize, row: &mut [u16]) -> Step
     many_atoms(bytes, arities, n as usize, j, &mut row[1..])
 }
 
-// 1 for the empty set, else 0.
-pub fn lacks(set: u8) -> u8
-    ensures { λ r. ⌜ r ≡ lacking set ⌝ }
-{
-    if set == 0 {
-        return 1;
-    }
-    0
-}
-
-// 8 before 9, by the variables that stand in two disjuncts and the detached disjuncts.
-pub fn fault(again: u8, apart: u8) -> u8
-    ensures { λ r. ⌜ r ≡ faultOf again apart ⌝ }
-{
-    if again != 0 {
-        return 8;
-    }
-    if apart != 0 {
-        return 9;
-    }
-    0
-}
-
 // n disjuncts into the front of 84 zeros; the value is the fault of the rule that has them, by the set of its body's variables.
 fn many_disjuncts(
     bytes: &[u8],
@@ -167,7 +145,7 @@ fn many_disjuncts(
                 let new = set & !body;
                 again = again | seen & new;
                 seen = seen | new;
-                apart = apart | lacks(set & body);
+                apart = apart | faults::lacks(set & body);
                 at = next;
                 from += 21;
                 k += 1;
@@ -177,7 +155,7 @@ fn many_disjuncts(
             }
         }
     }
-    Step::Good(fault(again, apart), at)
+    Step::Good(faults::fault(again, apart), at)
 }
 
 // A rule into a row of 106 zeros, 8 and then 9 tested after its last byte.

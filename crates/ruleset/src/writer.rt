@@ -1,20 +1,22 @@
 // The writer: the bytes of the rule set that a form holds, tested as the reader tests them, once over the form. Each function writes what a
 // parser of model's `Format` reads, and answers the parser's step (`Writes` of specs/Writes.antt).
 use crate::Step;
-use crate::reader;
+use crate::Transfer;
+use crate::faults;
 ghost use mathlib.Core.Path.{_≡_};
-ghost use mathlib.Core.List.{List, [], _∷_};
+ghost use mathlib.Core.List.{List, [], _∷_, _++_};
 ghost use Prim.Native.Nat.{ℕ, _+_, _-_, _≤_, _<_};
-ghost use lib.ListN.{length, getD};
+ghost use lib.ListN.{length, getD, drop};
 ghost use Rattle.model.specs.Lists.{numbersFrom, collect};
 ghost use Rattle.model.specs.Rules.{Atom};
-ghost use Rattle.model.specs.Format.{many, atomBytes, atomsBytes, ruleBytes};
+ghost use Rattle.model.specs.Format.{many, atomBytes, atomsBytes, ruleBytes, content};
 ghost use Rattle.model.specs.Format as format;
-ghost use Rattle.model.specs.Form.{spaced, atomAt, groupAt, ruleAt};
+ghost use Rattle.model.specs.Form.{spaced, atomAt, groupAt, ruleAt, decoded, writing};
 ghost use Rattle.ruleset.specs.Sets.{setOf};
+ghost use Rattle.ruleset.specs.Transfer.{transferOf};
 ghost use Rattle.ruleset.specs.Heads.{fault as faulty};
-ghost use Rattle.ruleset.specs.Step.{value, none, atomSet, atomsSet, Arities};
-ghost use Rattle.ruleset.specs.Writes.{Writes, Ends, Took, Small};
+ghost use Rattle.ruleset.specs.Step.{value, none, atomSet, atomsSet, Arities, parsedRules};
+ghost use Rattle.ruleset.specs.Writes.{Writes, Ends, Took, Small, parsedContent, rulesBytes, rulesAt, lengthened};
 
 // A place of the form; one that a short form lacks reads as 0.
 fn number(form: &[u16], at: usize) -> u16
@@ -146,7 +148,7 @@ fn put_many_disjuncts(
                 let new = set & !body;
                 again = again | seen & new;
                 seen = seen | new;
-                apart = apart | reader::lacks(set & body);
+                apart = apart | faults::lacks(set & body);
                 j = next;
                 from += 21;
                 k += 1;
@@ -156,7 +158,7 @@ fn put_many_disjuncts(
             }
         }
     }
-    Step::Good(reader::fault(again, apart), j)
+    Step::Good(faults::fault(again, apart), j)
 }
 
 // A rule, 8 and then 9 tested after its last byte.
@@ -228,4 +230,79 @@ fn put_arities(form: &[u16], n: usize, i: usize, out: &mut [u8]) -> Step
         }
     }
     Step::Good(0, j)
+}
+
+// A count of at most 64, and so many rules.
+fn put_rules(form: &[u16], n: usize, i: usize, out: &mut [u8]) -> Step
+    requires { ⌜ Arities (numbersFrom (now form) 6786 n) ⌝ }
+    requires { ⌜ (i + 6785 ≤ length (now out)) × (n ≤ 64) ⌝ }
+    ensures { λ r. ⌜ Writes none (λ bs. parsedRules bs (numbersFrom (now (form .entry)) 6786 n) i) i (rulesBytes (rulesAt (now (form .entry)) (numbersFrom (now (form .entry)) 6786 n))) (now (out .entry)) r (now (out .exit)) × Ends r i 6785 ⌝ }
+{
+    let first = put(number(form, 1), 0, 64, 5, i, out);
+    let Step::Good(count, j) = first else {
+        return first;
+    };
+    put_many_rules(form, n, count as usize, 2, j, out)
+}
+
+// What follows the length.
+fn put_content(form: &[u16], out: &mut [u8]) -> Step
+    requires { ⌜ length (now out) ≡ 6855 ⌝ }
+    ensures { λ r. ⌜ Writes none parsedContent 4 (content (decoded (now (form .entry)))) (now (out .entry)) r (now (out .exit)) × Ends r 4 6851 ⌝ }
+{
+    let version = put(1, 1, 1, 3, 4, out);
+    let Step::Good(_, i) = version else {
+        return version;
+    };
+    let first = put(number(form, 0), 1, 64, 4, i, out);
+    let Step::Good(n, j) = first else {
+        return first;
+    };
+    let listed = put_arities(form, n as usize, j, out);
+    let Step::Good(_, k) = listed else {
+        return listed;
+    };
+    put_rules(form, n as usize, k, out)
+}
+
+// The length of what follows it, big-endian, as the first four bytes: it is below 65536.
+fn put_length(end: usize, out: &mut [u8])
+    requires { ⌜ (4 ≤ end) × (end ≤ 6855) × (4 ≤ length (now out)) ⌝ }
+    ensures { λ _. ⌜ now (out .exit) ≡ lengthened (now (out .entry)) (end - 4) ⌝ }
+{
+    out[0] = 0;
+    out[1] = 0;
+    out[2] = ((end - 4) / 256) as u8;
+    out[3] = ((end - 4) % 256) as u8;
+}
+
+// Bytes over the front of a longer list.
+fn copy(from: &[u8], to: &mut [u8])
+    requires { ⌜ length (now from) ≤ length (now to) ⌝ }
+    ensures { λ _. ⌜ now (to .exit) ≡ now (from .entry) ++ drop (length (now (from .entry))) (now (to .entry)) ⌝ }
+{
+    let mut k = 0;
+    while k < from.len() {
+        to[k] = from[k];
+        k += 1;
+    }
+}
+
+// The bytes of the rule set that a form holds (document 01: book form); on a refusal the list stays as it was. A list shorter than these
+// bytes is refusal 1.
+pub fn write(form: &[u16], out: &mut [u8]) -> Transfer
+    ensures { λ r. ⌜ writing (now (form .entry)) (now (out .entry)) ≡ record { answer = transferOf r; bytes = now (out .exit) } ⌝ }
+{
+    let mut local = [0u8; 6855];
+    match put_content(form, &mut local[..]) {
+        Step::Good(_, end) => {
+            if out.len() < end {
+                return Transfer::Refusal(1, 0);
+            }
+            put_length(end, &mut local[..]);
+            copy(&local[..end], out);
+            Transfer::Done(end)
+        }
+        Step::Bad(refusal, place) => Transfer::Refusal(refusal, place),
+    }
 }

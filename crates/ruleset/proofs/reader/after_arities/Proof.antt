@@ -1,23 +1,18 @@
 -- `ruleset::reader::after_arities` meets its contract: count, arities and rules into the form, and then the end of the bytes.
 -- Assumes nothing.
-use mathlib.Core.Path.{_≡_, refl, sym, ap, _∙_}
+use mathlib.Core.Path.{_≡_, sym, _∙_}
 use mathlib.Core.List.{List}
-use Prim.Native.Nat.{ℕ, _≤_, _<_, _-_, _+_}
+use Prim.Native.Nat.{ℕ}
 use native.Mathlib.Omega.{arith}
-use lib.ListN.{length, take, drop}
-use Rattle.model.specs.Rules.{Rule}
+use lib.ListN.{length}
 use Rattle.model.specs.Form.{encoded}
-use Rattle.ruleset.specs.Step.{zeros, none, Arities, parsedRules, afterArities}
+use Rattle.ruleset.specs.Step.{none, parsedRules, afterArities}
 use Rattle.ruleset.proofs.Lists.{zeros-length}
 use Rattle.ruleset.proofs.Parsing.{Parses, step-good, refuses}
-use Rattle.ruleset.proofs.FormRow.{first, listed, ruled, first-length, places-zeros, listed-length, rules-zeros, ruled-length, form-encoded, ends-good, ends-bad}
+use Rattle.ruleset.proofs.FormRow.{first, ruled, first-length, places-zeros, listed-length, rules-zeros, ruled-length, form-encoded, ends-good, ends-bad}
 use borrow.Author.Needs.{needs}
 use Rattle.ruleset.proofs.reader.after_arities.Statement.{statement}
 use Rattle.ruleset.proofs.reader.after_arities.Tie as tie
-use Rattle.ruleset.proofs.reader.after_arities.Reads as reads
-use Rattle.ruleset.proofs.reader.after_arities.Lts as lts
-use Rattle.ruleset.proofs.reader.copy.Reads as copy-reads
-use Rattle.ruleset.proofs.reader.rules.Reads as rules-reads
 
 -- what the places of the code have: the form as it came, the arities, and the arities' part of the form
 
@@ -52,79 +47,61 @@ stored c =
     form-encoded (form (c .before .before .before .before .before .before .before .before .before .before .before .before .before)) (arities (c .before .before .before .before .before .before .before .before .before .before .before .before .before)) (places (c .before .before .before .before .before .before .before .before)) _ (read c .result) (c .before .before .before .before .before .before .before .before .before .before .before .before .before .pre .1) (c .before .before .before .before .before .before .before .before .before .before .before .before .before .pre .0 .few) (c .before .before .before .before .before .before .before .before .copy .ensures)
     (c .before .before .before .before .rules .ensures .stored _ _ (read c .parse))
 
--- src/reader.rt:284:15
 cast-form : tie.Need-cast-form
 cast-form c = search needs
 
--- src/reader.rt:284:5
 slice-write-form : tie.Need-slice-write-form
 slice-write-form c = omega (arith, zeros-length 6850 _ (c .before .before .before .pre .1))
 
--- src/reader.rt:285:19
 sub-copy : tie.Need-sub-copy
 sub-copy c = omega (arith, wide (c .before .before .before))
 
--- src/reader.rt:285:19
 part-copy-start : tie.Need-part-copy-start
 part-copy-start c = omega (arith, wide (c .before .before .before))
 
--- src/reader.rt:285:19
 part-copy-end : tie.Need-part-copy-end
 part-copy-end c = search needs
 
--- src/reader.rt:285:5
 copy-requires : tie.Need-copy-requires
 copy-requires c κs =
     let l = zeros-length 64 _ (places-zeros (form (c .before .before .before .before)) (length (arities (c .before .before .before .before))) (c .before .before .before .before .pre .1)) in
     let h = c .before .before .before .before .pre .0 .few in
     omega arith
 
--- src/reader.rt:286:41
 sub-rules : tie.Need-sub-rules
 sub-rules c = search needs
 
--- src/reader.rt:286:41
 part-rules-start : tie.Need-part-rules-start
 part-rules-start c = search needs
 
--- src/reader.rt:286:41
 part-rules-end : tie.Need-part-rules-end
 part-rules-end c = omega (arith, listed-length (form (c .before .before .before .before .before .before .before)) (length (arities (c .before .before .before .before .before .before .before))) (c .before .before .before .before .before .before .before .pre .1) (places (c .before .before)) (places-length (c .before .before)))
 
--- src/reader.rt:286:9
 rules-requires : tie.Need-rules-requires
 rules-requires c κs = (c .before .before .before .before .before .before .before .before .pre .0, rules-zeros (form (c .before .before .before .before .before .before .before .before)) (length (arities (c .before .before .before .before .before .before .before .before))) (c .before .before .before .before .before .before .before .before .pre .1) (places (c .before .before .before)) (places-length (c .before .before .before)))
 
--- src/reader.rt:287:23
 enum-known-read : tie.Need-enum-known-read
 enum-known-read c = search needs
 
--- src/reader.rt:288:9
 enum-told : tie.Need-enum-told
 enum-told c = search needs
 
--- src/reader.rt:288:9
 same-length : tie.Need-same-length
 same-length c = whole-length (c .before .before .before .before)
 
--- src/reader.rt:288:9
 returns : tie.Need-returns
 unfolding afterArities
 returns c = refuses _ _ _ _ _ _ none _ _ (c .before .before .before .before .rules .ensures .answer) (c .enum-told .given .1)
 
--- src/reader.rt:291:9
 same-length-2 : tie.Need-same-length-2
 same-length-2 c = whole-length (c .before .before .before .before .before .before)
 
--- src/reader.rt:291:9
 returns-2 : tie.Need-returns-2
 returns-2 c = ends-good _ _ _ _ _ _ (read (c .before .before) .parse) (c .if1 .taken) (stored (c .before .before))
 
--- src/reader.rt:279:1
 same-length-3 : tie.Need-same-length-3
 same-length-3 c = whole-length (c .before .before .before .before .before .before)
 
--- src/reader.rt:279:1
 returns-3 : tie.Need-returns-3
 returns-3 c = ends-bad _ _ _ _ _ _ (read (c .before .before) .parse) (c .if1 .left)
 

@@ -1,42 +1,32 @@
 -- `ruleset::reader::atom` meets its contract: the predicate, and then the variables, into one row. Assumes nothing.
-use mathlib.Core.Path.{_≡_, refl, sym, ap, _∙_, subst}
-use Prim.Native.Nat.{ℕ, _≤_, _<_, _-_, _+_}
+use mathlib.Core.Path.{_≡_, sym, _∙_}
+use Prim.Native.Nat.{_<_, _-_}
 use native.Mathlib.Omega.{arith}
-use lib.ListN.{length, getD, length-set}
+use lib.ListN.{length, length-set}
 use Rattle.model.specs.Format.{good, byte, atom}
 use Rattle.ruleset.specs.Step.{value}
 use Rattle.ruleset.proofs.Lists.{tail-zeros, tail-length, zeros-length, zeros-self, headed-length}
-use Rattle.ruleset.proofs.Parsing.{step-value, Within, byte-good, refuses}
+use Rattle.ruleset.proofs.Parsing.{step-value, byte-good, refuses}
 use Rattle.ruleset.proofs.Rows.{atom-filled}
 use borrow.Author.Needs.{needs}
 use Rattle.ruleset.proofs.reader.atom.Statement.{statement}
 use Rattle.ruleset.proofs.reader.atom.Tie as tie
-use Rattle.ruleset.proofs.reader.atom.Reads as reads
-use Rattle.ruleset.proofs.reader.atom.Lts as lts
-use Rattle.ruleset.proofs.reader.byte.Reads as byte-reads
-use Rattle.ruleset.proofs.reader.variables.Reads as variables-reads
 
--- src/reader.rt:70:32
 sub-byte : tie.Need-sub-byte
 sub-byte c = search needs
 
--- src/reader.rt:70:31
 cast-byte : tie.Need-cast-byte
 cast-byte c = search needs
 
--- src/reader.rt:70:9
 byte-requires : tie.Need-byte-requires
 byte-requires c κs = search needs
 
--- src/reader.rt:71:20
 enum-known-head : tie.Need-enum-known-head
 enum-known-head c = search needs
 
--- src/reader.rt:72:9
 enum-told : tie.Need-enum-told
 enum-told c = search needs
 
--- src/reader.rt:72:9
 returns : tie.Need-returns
 unfolding atom
 returns c = refuses _ _ _ _ _ _ value _ _ (c .before .before .byte .ensures) (c .enum-told .given .1)
@@ -52,43 +42,33 @@ read-declared c =
     let s = c .before .before .before .before .before .before .pre .0 .some in
     omega arith
 
--- src/reader.rt:74:14
 cast-row : tie.Need-cast-row
 cast-row c = search needs
 
--- src/reader.rt:74:5
 slice-write-row : tie.Need-slice-write-row
 slice-write-row c = omega (arith, zeros-length 5 _ (c .before .before .before .before .before .before .before .pre .1))
 
--- src/reader.rt:75:21
 cast-n : tie.Need-cast-n
 cast-n c = search needs
 
--- src/reader.rt:75:13
 mul-n : tie.Need-mul-n
 mul-n c = search needs
 
--- src/reader.rt:75:13
 shared-slice-read-n : tie.Need-shared-slice-read-n
 shared-slice-read-n c = read-declared (c .before .before)
 
--- src/reader.rt:75:13
 cast-n-2 : tie.Need-cast-n-2
 cast-n-2 c = omega (arith, c .before .before .before .before .before .before .before .before .pre .0 .small (c .before .before .head .given .0 .0))
 
--- src/reader.rt:76:28
 sub-variables : tie.Need-sub-variables
 sub-variables c = simp length-set (omega (arith, zeros-length 5 _ (c .before .before .before .before .before .before .before .before .pre .1)))
 
--- src/reader.rt:76:28
 part-variables-start : tie.Need-part-variables-start
 part-variables-start c = simp length-set (omega (arith, zeros-length 5 _ (c .before .before .before .before .before .before .before .before .pre .1)))
 
--- src/reader.rt:76:28
 part-variables-end : tie.Need-part-variables-end
 part-variables-end c = search needs
 
--- src/reader.rt:76:5
 variables-requires : tie.Need-variables-requires
 variables-requires c κs =
     let z = c .before .before .before .before .before .before .before .before .before .pre in
@@ -96,13 +76,11 @@ variables-requires c κs =
     let a = z .0 .small (c .before .before .before .head .given .0 .0) in
     (omega arith, zeros-self 4 _ (tail-zeros 4 _ _ (z .1)))
 
--- src/reader.rt:65:1
 same-length : tie.Need-same-length
 same-length c =
     headed-length (c .before .before .before .before .before .before .before .before .before .before .before .before .args .row .now) (c .before .before .before .before .before .before .head .given .0 .0) (c .before .before .variables .last .1 .1 .1 .0)
     (c .before .before .variables .kept .1 .1 .1 .0)
 
--- src/reader.rt:65:1
 returns-2 : tie.Need-returns-2
 returns-2 c =
     atom-filled _ _ _ _ _ _ _ _ (read (c .before .before .before .before .before .before)) (c .before .before .before .before .before .before .before .before .before .before .before .before .pre .1) (c .before .before .variables .ensures)

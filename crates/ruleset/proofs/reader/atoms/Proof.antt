@@ -1,34 +1,26 @@
 -- `ruleset::reader::atoms` meets its contract: the count, and then the atoms, into one row. Assumes nothing.
-use mathlib.Core.Path.{_≡_, refl, sym, ap, _∙_}
-use Prim.Native.Nat.{ℕ, _≤_, _<_, _-_, _+_}
+use mathlib.Core.Path.{_≡_, sym, _∙_}
+use Prim.Native.Nat.{_≤_}
 use native.Mathlib.Omega.{arith}
-use lib.ListN.{length, length-set}
+use lib.ListN.{length-set}
 use Rattle.model.specs.Format.{good, byte, atoms}
 use Rattle.ruleset.specs.Step.{value}
 use Rattle.ruleset.proofs.Lists.{tail-zeros, zeros-length, headed-length}
-use Rattle.ruleset.proofs.Parsing.{step-value, Within, byte-good, refuses}
+use Rattle.ruleset.proofs.Parsing.{step-value, byte-good, refuses}
 use Rattle.ruleset.proofs.Rows.{atoms-filled}
 use borrow.Author.Needs.{needs}
 use Rattle.ruleset.proofs.reader.atoms.Statement.{statement}
 use Rattle.ruleset.proofs.reader.atoms.Tie as tie
-use Rattle.ruleset.proofs.reader.atoms.Reads as reads
-use Rattle.ruleset.proofs.reader.atoms.Lts as lts
-use Rattle.ruleset.proofs.reader.byte.Reads as byte-reads
-use Rattle.ruleset.proofs.reader.many_atoms.Reads as many-atoms-reads
 
--- src/reader.rt:111:9
 byte-requires : tie.Need-byte-requires
 byte-requires c κs = search needs
 
--- src/reader.rt:112:20
 enum-known-count : tie.Need-enum-known-count
 enum-known-count c = search needs
 
--- src/reader.rt:113:9
 enum-told : tie.Need-enum-told
 enum-told c = search needs
 
--- src/reader.rt:113:9
 returns : tie.Need-returns
 unfolding atoms
 returns c = refuses _ _ _ _ _ _ value _ _ (c .before .before .byte .ensures) (c .enum-told .given .1)
@@ -41,42 +33,33 @@ read c = step-value _ _ _ (sym (c .count .given .1) ∙ c .before .before .byte 
 read-few : (c : tie.After-count) → c .count .given .0 .0 ≤ 4
 read-few c = byte-good _ _ _ _ _ _ _ (read c) .most
 
--- src/reader.rt:115:14
 cast-row : tie.Need-cast-row
 cast-row c = search needs
 
--- src/reader.rt:115:5
 slice-write-row : tie.Need-slice-write-row
 slice-write-row c = omega (arith, zeros-length 21 _ (c .before .before .before .before .before .before .before .pre .1))
 
--- src/reader.rt:116:32
 cast-many-atoms : tie.Need-cast-many-atoms
 cast-many-atoms c = search needs
 
--- src/reader.rt:116:47
 sub-many-atoms : tie.Need-sub-many-atoms
 sub-many-atoms c = simp length-set (omega (arith, zeros-length 21 _ (c .before .before .before .before .before .before .before .pre .1)))
 
--- src/reader.rt:116:47
 part-many-atoms-start : tie.Need-part-many-atoms-start
 part-many-atoms-start c = simp length-set (omega (arith, zeros-length 21 _ (c .before .before .before .before .before .before .before .pre .1)))
 
--- src/reader.rt:116:47
 part-many-atoms-end : tie.Need-part-many-atoms-end
 part-many-atoms-end c = search needs
 
--- src/reader.rt:116:5
 many-atoms-requires : tie.Need-many-atoms-requires
 many-atoms-requires c κs =
     let a = c .before .before .before .before .before .before .before .before .pre in
     (a .0, (read-few (c .before .before), tail-zeros 20 _ _ (a .1)))
 
--- src/reader.rt:106:1
 same-length : tie.Need-same-length
 same-length c =
     headed-length (c .before .before .before .before .before .before .before .before .before .before .before .args .row .now) (c .before .before .before .before .before .count .given .0 .0) (c .before .before .many-atoms .last .1 .1 .1 .1 .0) (c .before .before .many-atoms .kept .1 .1 .1 .1 .0)
 
--- src/reader.rt:106:1
 returns-2 : tie.Need-returns-2
 returns-2 c = atoms-filled _ _ _ _ _ _ _ _ (read (c .before .before .before .before .before)) (c .before .before .before .before .before .before .before .before .before .before .before .pre .1) (c .before .before .many-atoms .ensures)
 

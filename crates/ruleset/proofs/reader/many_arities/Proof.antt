@@ -1,19 +1,16 @@
 -- `ruleset::reader::many_arities` meets its contract: between turns the loop is as `Progress` says. Assumes nothing.
-use mathlib.Core.Path.{_≡_, refl, sym, ap, _∙_}
-use Prim.Native.Nat.{ℕ, _≤_, _-_, _+_}
+use mathlib.Core.Path.{_≡_, refl, sym, _∙_}
+use Prim.Native.Nat.{_≤_, _-_}
 use native.Mathlib.Omega.{arith}
 use borrow.Author.Needs.{needs}
 use lib.ListN.{length, length-set}
 use Rattle.model.specs.Format.{byte}
-use Rattle.ruleset.specs.Step.{value, none}
+use Rattle.ruleset.specs.Step.{value}
 use Rattle.ruleset.proofs.Lists.{single}
 use Rattle.ruleset.proofs.Parsing.{step-value, step-bad}
 use Rattle.ruleset.proofs.Many.{Anything, Progress, begun, more-single, finished-single, failed}
 use Rattle.ruleset.proofs.reader.many_arities.Statement.{statement}
 use Rattle.ruleset.proofs.reader.many_arities.Tie as tie
-use Rattle.ruleset.proofs.reader.many_arities.Reads as reads
-use Rattle.ruleset.proofs.reader.many_arities.Lts as lts
-use Rattle.ruleset.proofs.reader.byte.Reads as byte-reads
 
 abbrev Inv-loop : tie.InvT-loop
 Inv-loop bytes n i row₀ at₀ k₀ row at k = (k ≤ n) × (length row ≡ length row₀) × Progress (byte bytes 1 4 4) Anything single n i row₀ k at k 0 row
@@ -21,64 +18,50 @@ Inv-loop bytes n i row₀ at₀ k₀ row at k = (k ≤ n) × (length row ≡ len
 abbrev μ-loop : tie.MeasureT-loop
 μ-loop bytes n i row₀ at₀ k₀ row at k = n - k
 
--- src/reader.rt:251:5
 loop-holds : tie.Need-loop-holds Inv-loop μ-loop
 loop-holds c = (omega arith, refl, begun _ _ _ _ _ _ 0 tt)
 
--- src/reader.rt:252:15
 byte-requires : tie.Need-byte-requires Inv-loop μ-loop
 byte-requires c κs = search needs
 
--- src/reader.rt:253:24
 enum-known-v : tie.Need-enum-known-v Inv-loop μ-loop
 enum-known-v c = search needs
 
--- src/reader.rt:254:26
 cast-row : tie.Need-cast-row Inv-loop μ-loop
 cast-row c = search needs
 
--- src/reader.rt:254:17
 mul-row : tie.Need-mul-row Inv-loop μ-loop
 mul-row c = search needs
 
--- src/reader.rt:254:17
 slice-write-row : tie.Need-slice-write-row Inv-loop μ-loop
 slice-write-row c = search needs
 
--- src/reader.rt:256:17
 add-k : tie.Need-add-k Inv-loop μ-loop
 add-k c = search needs
 
--- src/reader.rt:251:5
 loop-less : tie.Need-loop-less Inv-loop μ-loop
 loop-less c = search needs
 
--- src/reader.rt:251:5
 loop-again : tie.Need-loop-again Inv-loop μ-loop
 loop-again c =
     let h = c .before .before .before .before .before .loop .inv in
     let e = step-value _ _ _ (sym (c .before .v .given .1) ∙ c .before .before .before .byte .ensures) in
     (omega arith, simp length-set (h .1), more-single _ _ _ _ _ _ _ _ _ (h .2) _ _ 0 (omega arith) (omega arith) e (λ vs m. tt))
 
--- src/reader.rt:258:23
 enum-known-refusal : tie.Need-enum-known-refusal Inv-loop μ-loop
 enum-known-refusal c = search needs
 
--- src/reader.rt:259:17
 same-length : tie.Need-same-length Inv-loop μ-loop
 same-length c = search needs
 
--- src/reader.rt:259:17
 returns : tie.Need-returns Inv-loop μ-loop
 returns c =
     failed _ _ _ _ _ _ _ _ _ _ _ (c .before .before .before .before .before .loop .inv .2) _ _ _ _ _ (omega arith)
     (step-bad value _ _ _ (sym (c .before .refusal .given .1) ∙ c .before .before .before .byte .ensures))
 
--- src/reader.rt:245:1
 same-length-2 : tie.Need-same-length-2 Inv-loop μ-loop
 same-length-2 c = search needs
 
--- src/reader.rt:245:1
 returns-2 : tie.Need-returns-2 Inv-loop μ-loop
 returns-2 c = finished-single _ _ _ _ _ _ _ _ _ (c .before .loop .inv .2) _ _ _ (λ vs m. refl) (omega arith) (c .before .before .before .before .pre .1)
 

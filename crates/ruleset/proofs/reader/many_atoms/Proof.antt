@@ -1,6 +1,6 @@
 -- `ruleset::reader::many_atoms` meets its contract: between turns the loop is as `Progress` says. Assumes nothing.
-use mathlib.Core.Path.{_≡_, refl, sym, ap, _∙_}
-use Prim.Native.Nat.{ℕ, _≤_, _<_, _-_, _+_, _*_}
+use mathlib.Core.Path.{_≡_, refl, sym, _∙_}
+use Prim.Native.Nat.{_≤_, _-_, _*_}
 use native.Mathlib.Omega.{arith}
 use borrow.Author.Needs.{needs}
 use lib.ListN.{length}
@@ -15,9 +15,6 @@ use Rattle.ruleset.proofs.Many.{Progress, begun, finished, part-unfille
 use Rattle.ruleset.proofs.Rows.{atomsSet-more}
 use Rattle.ruleset.proofs.reader.many_atoms.Statement.{statement}
 use Rattle.ruleset.proofs.reader.many_atoms.Tie as tie
-use Rattle.ruleset.proofs.reader.many_atoms.Reads as reads
-use Rattle.ruleset.proofs.reader.many_atoms.Lts as lts
-use Rattle.ruleset.proofs.reader.atom.Reads as atom-reads
 
 abbrev Inv-loop : tie.InvT-loop
 Inv-loop bytes arities n i rows₀ set₀ at₀ from₀ k₀ rows set at from k =
@@ -26,82 +23,65 @@ Inv-loop bytes arities n i rows₀ set₀ at₀ from₀ k₀ rows set at from k 
 abbrev μ-loop : tie.MeasureT-loop
 μ-loop bytes arities n i rows₀ set₀ at₀ from₀ k₀ rows set at from k = n - k
 
--- src/reader.rt:89:5
 loop-holds : tie.Need-loop-holds Inv-loop μ-loop
 unfolding setOf variablesOf collect
 loop-holds c = (omega arith, refl, zeros-length 20 _ (c .before .before .before .pre .1 .1), begun _ _ _ _ _ _ _ refl)
 
--- src/reader.rt:90:56
 add-atom : tie.Need-add-atom Inv-loop μ-loop
 add-atom c = search needs
 
--- src/reader.rt:90:40
 mul-atom : tie.Need-mul-atom Inv-loop μ-loop
 mul-atom c = search needs
 
--- src/reader.rt:90:40
 sub-atom : tie.Need-sub-atom Inv-loop μ-loop
 sub-atom c = search needs
 
--- src/reader.rt:90:40
 part-atom-start : tie.Need-part-atom-start Inv-loop μ-loop
 part-atom-start c = search needs
 
--- src/reader.rt:90:40
 part-atom-end : tie.Need-part-atom-end Inv-loop μ-loop
 part-atom-end c = search needs
 
--- src/reader.rt:90:15
 atom-requires : tie.Need-atom-requires Inv-loop μ-loop
 atom-requires c κs =
     let h = c .before .before .loop .inv in
     let a = c .before .before .before .before .before .before .pre in
     (a .0, part-unfilled _ _ _ atomSet _ _ _ _ _ _ _ _ (h .3) 20 5 (a .1 .1) (omega arith))
 
--- src/reader.rt:91:24
 enum-known-variables : tie.Need-enum-known-variables Inv-loop μ-loop
 enum-known-variables c = search needs
 
--- src/reader.rt:94:17
 add-from : tie.Need-add-from Inv-loop μ-loop
 add-from c = search needs
 
--- src/reader.rt:95:17
 add-k : tie.Need-add-k Inv-loop μ-loop
 add-k c = search needs
 
--- src/reader.rt:89:5
 loop-less : tie.Need-loop-less Inv-loop μ-loop
 loop-less c = search needs
 
--- src/reader.rt:89:5
 loop-again : tie.Need-loop-again Inv-loop μ-loop
 loop-again c =
     let h = c .before .before .before .before .before .before .before .before .loop .inv in
     let f = c .before .before .before .before .before .atom in
     (omega arith, omega arith, part-length (c .before .before .before .before .before .before .before .before .loop .from) 5 (c .before .before .before .before .before .before .before .before .loop .rows) (c .before .before .before .before .before .atom .last .1 .1 .1 .0) (f .kept .1 .1 .1 .0) ∙ h .2, more-part _ _ _ atomSet _ _ _ _ _ _ _ _ (h .3) 5 _ _ _ _ _ (omega arith) (omega arith) (c .before .variables .given .1) (f .ensures) (f .kept .1 .1 .1 .0) (atomsSet-more _ _))
 
--- src/reader.rt:97:23
 enum-known-refusal : tie.Need-enum-known-refusal Inv-loop μ-loop
 enum-known-refusal c = search needs
 
--- src/reader.rt:98:17
 same-length : tie.Need-same-length Inv-loop μ-loop
 same-length c =
     let h = c .before .before .before .before .before .before .before .before .loop .inv in
     part-length (c .before .before .before .before .before .before .before .before .loop .from) 5 (c .before .before .before .before .before .before .before .before .loop .rows) (c .before .before .before .before .before .atom .last .1 .1 .1 .0) (c .before .before .before .before .before .atom .kept .1 .1 .1 .0) ∙ h .2 ∙ sym (zeros-length 20 _ (c .before .before .before .before .before .before .before .before .before .before .before .before .pre .1 .1))
 
--- src/reader.rt:98:17
 returns : tie.Need-returns Inv-loop μ-loop
 returns c =
     let h = c .before .before .before .before .before .before .before .before .loop .inv in
     failed-part _ _ _ atomSet _ _ _ _ _ _ _ _ (h .3) _ _ _ _ _ _ _ (omega arith) (c .before .refusal .given .1) (c .before .before .before .before .before .atom .ensures)
 
--- src/reader.rt:80:1
 same-length-2 : tie.Need-same-length-2 Inv-loop μ-loop
 same-length-2 c = c .before .loop .inv .2 ∙ sym (zeros-length 20 _ (c .before .before .before .before .before .pre .1 .1))
 
--- src/reader.rt:80:1
 returns-2 : tie.Need-returns-2 Inv-loop μ-loop
 returns-2 c = finished _ _ _ _ _ _ _ _ _ _ _ (c .before .loop .inv .3) _ _ 20 (λ as' e. e) (omega arith) (c .before .before .before .before .before .pre .1 .1)
 

@@ -1,11 +1,9 @@
 -- `ruleset::reader::many_disjuncts` meets its contract: between turns the loop is as `Progress` says. Assumes nothing.
-use mathlib.Core.Path.{_≡_, refl, sym, ap, _∙_}
-use mathlib.Core.List.{List, []}
-use Prim.Native.Nat.{ℕ, _≤_, _<_, _-_, _+_, _*_}
+use mathlib.Core.Path.{_≡_, refl, sym, _∙_}
+use Prim.Native.Nat.{_≤_, _-_, _*_}
 use native.Mathlib.Omega.{arith}
 use borrow.Author.Needs.{needs}
 use lib.ListN.{length}
-use Rattle.model.specs.Rules.{Atom}
 use Rattle.model.specs.Format.{atoms}
 use Rattle.model.specs.Form.{group}
 use Rattle.ruleset.specs.Step.{atomsSet}
@@ -14,11 +12,6 @@ use Rattle.ruleset.proofs.Many.{Progress, begun, finished, part-unfille
 use Rattle.ruleset.proofs.Heads.{Keeps, seen-none, keeps-more, fault-is}
 use Rattle.ruleset.proofs.reader.many_disjuncts.Statement.{statement}
 use Rattle.ruleset.proofs.reader.many_disjuncts.Tie as tie
-use Rattle.ruleset.proofs.reader.many_disjuncts.Reads as reads
-use Rattle.ruleset.proofs.reader.many_disjuncts.Lts as lts
-use Rattle.ruleset.proofs.reader.atoms.Reads as atoms-reads
-use Rattle.ruleset.proofs.reader.fault.Reads as fault-reads
-use Rattle.ruleset.proofs.reader.lacks.Reads as lacks-reads
 
 abbrev Inv-loop : tie.InvT-loop
 Inv-loop bytes arities body n i rows₀ seen₀ again₀ apart₀ at₀ from₀ k₀ rows seen again apart at from k =
@@ -29,90 +22,71 @@ abbrev μ-loop : tie.MeasureT-loop
 μ-loop bytes arities body n i rows₀ seen₀ again₀ apart₀ at₀ from₀ k₀ rows seen again apart at from k =
     n - k
 
--- src/reader.rt:155:5
 loop-holds : tie.Need-loop-holds Inv-loop μ-loop
 loop-holds c = (omega arith, refl, zeros-length 84 _ (c .before .before .before .pre .1 .1), begun _ _ _ _ _ _ _ (λ b e. seen-none _))
 
--- src/reader.rt:156:57
 add-atoms : tie.Need-add-atoms Inv-loop μ-loop
 add-atoms c = search needs
 
--- src/reader.rt:156:41
 mul-atoms : tie.Need-mul-atoms Inv-loop μ-loop
 mul-atoms c = search needs
 
--- src/reader.rt:156:41
 sub-atoms : tie.Need-sub-atoms Inv-loop μ-loop
 sub-atoms c = search needs
 
--- src/reader.rt:156:41
 part-atoms-start : tie.Need-part-atoms-start Inv-loop μ-loop
 part-atoms-start c = search needs
 
--- src/reader.rt:156:41
 part-atoms-end : tie.Need-part-atoms-end Inv-loop μ-loop
 part-atoms-end c = search needs
 
--- src/reader.rt:156:15
 atoms-requires : tie.Need-atoms-requires Inv-loop μ-loop
 atoms-requires c κs =
     let h = c .before .before .loop .inv in
     let a = c .before .before .before .before .before .before .pre in
     (a .0, part-unfilled _ _ _ atomsSet _ _ _ _ _ _ _ _ (h .3) 84 21 (a .1 .1) (omega arith))
 
--- src/reader.rt:157:24
 enum-known-set : tie.Need-enum-known-set Inv-loop μ-loop
 enum-known-set c = search needs
 
--- src/reader.rt:161:33
 lacks-requires : tie.Need-lacks-requires Inv-loop μ-loop
 lacks-requires c κs = search needs
 
--- src/reader.rt:163:17
 add-from : tie.Need-add-from Inv-loop μ-loop
 add-from c = search needs
 
--- src/reader.rt:164:17
 add-k : tie.Need-add-k Inv-loop μ-loop
 add-k c = search needs
 
--- src/reader.rt:155:5
 loop-less : tie.Need-loop-less Inv-loop μ-loop
 loop-less c = search needs
 
--- src/reader.rt:155:5
 loop-again : tie.Need-loop-again Inv-loop μ-loop
 loop-again c =
     let h = c .before .before .before .before .before .before .before .before .before .loop .inv in
     let f = c .before .before .before .before .before .before .atoms in
     (omega arith, omega arith, part-length (c .before .before .before .before .before .before .before .before .before .loop .from) 21 (c .before .before .before .before .before .before .before .before .before .loop .rows) (f .last .1 .1 .1 .0) (f .kept .1 .1 .1 .0) ∙ h .2, more-part _ _ _ atomsSet _ _ _ _ _ _ _ _ (h .3) 21 _ _ _ _ _ (omega arith) (omega arith) (c .before .before .set .given .1) (f .ensures) (f .kept .1 .1 .1 .0) (keeps-more _ _ _ _ _ _ (c .before .before .before .before .before .before .before .before .before .before .before .before .before .fits .body .fits) (c .lacks .ensures)))
 
--- src/reader.rt:166:23
 enum-known-refusal : tie.Need-enum-known-refusal Inv-loop μ-loop
 enum-known-refusal c = search needs
 
--- src/reader.rt:167:17
 same-length : tie.Need-same-length Inv-loop μ-loop
 same-length c =
     let h = c .before .before .before .before .before .before .before .before .loop .inv in
     let f = c .before .before .before .before .before .atoms in
     part-length (c .before .before .before .before .before .before .before .before .loop .from) 21 (c .before .before .before .before .before .before .before .before .loop .rows) (f .last .1 .1 .1 .0) (f .kept .1 .1 .1 .0) ∙ h .2 ∙ sym (zeros-length 84 _ (c .before .before .before .before .before .before .before .before .before .before .before .before .pre .1 .1))
 
--- src/reader.rt:167:17
 returns : tie.Need-returns Inv-loop μ-loop
 returns c =
     let h = c .before .before .before .before .before .before .before .before .loop .inv in
     λ b e. failed-part _ _ _ atomsSet _ _ _ _ _ _ _ _ (h .3) _ _ _ _ _ _ _ (omega arith) (c .before .refusal .given .1) (c .before .before .before .before .before .atoms .ensures)
 
--- src/reader.rt:171:16
 fault-requires : tie.Need-fault-requires Inv-loop μ-loop
 fault-requires c κs = search needs
 
--- src/reader.rt:144:1
 same-length-2 : tie.Need-same-length-2 Inv-loop μ-loop
 same-length-2 c = c .before .before .loop .inv .2 ∙ sym (zeros-length 84 _ (c .before .before .before .before .before .before .pre .1 .1))
 
--- src/reader.rt:144:1
 returns-2 : tie.Need-returns-2 Inv-loop μ-loop
 returns-2 c b e =
     finished _ _ _ _ _ _ _ _ _ _ _ (c .before .before .loop .inv .3) _ _ 84 (λ ds m. fault-is b ds _ _ _ (m b e) ∙ sym (c .fault .ensures)) (omega arith) (c .before .before .before .before .before .before .pre .1 .1)

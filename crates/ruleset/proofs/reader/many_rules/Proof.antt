@@ -1,6 +1,6 @@
 -- `ruleset::reader::many_rules` meets its contract: between turns the loop is as `Progress` says. Assumes nothing.
-use mathlib.Core.Path.{_≡_, refl, sym, ap, _∙_}
-use Prim.Native.Nat.{ℕ, _≤_, _<_, _-_, _+_, _*_}
+use mathlib.Core.Path.{_≡_, refl, sym, _∙_}
+use Prim.Native.Nat.{_≤_, _-_, _*_}
 use native.Mathlib.Omega.{arith}
 use borrow.Author.Needs.{needs}
 use lib.ListN.{length}
@@ -11,9 +11,6 @@ use Rattle.ruleset.proofs.Lists.{zeros-length}
 use Rattle.ruleset.proofs.Many.{Anything, Progress, begun, finished, part-unfilled, more-part, failed-part, part-length}
 use Rattle.ruleset.proofs.reader.many_rules.Statement.{statement}
 use Rattle.ruleset.proofs.reader.many_rules.Tie as tie
-use Rattle.ruleset.proofs.reader.many_rules.Reads as reads
-use Rattle.ruleset.proofs.reader.many_rules.Lts as lts
-use Rattle.ruleset.proofs.reader.rule.Reads as rule-reads
 
 abbrev Inv-loop : tie.InvT-loop
 Inv-loop bytes arities n i rows₀ at₀ from₀ k₀ rows at from k =
@@ -22,82 +19,65 @@ Inv-loop bytes arities n i rows₀ at₀ from₀ k₀ rows at from k =
 abbrev μ-loop : tie.MeasureT-loop
 μ-loop bytes arities n i rows₀ at₀ from₀ k₀ rows at from k = n - k
 
--- src/reader.rt:215:5
 loop-holds : tie.Need-loop-holds Inv-loop μ-loop
 loop-holds c = (omega arith, refl, zeros-length 6784 _ (c .before .before .before .pre .1 .1), begun _ _ _ _ _ _ 0 tt)
 
--- src/reader.rt:216:56
 add-rule : tie.Need-add-rule Inv-loop μ-loop
 add-rule c = search needs
 
--- src/reader.rt:216:40
 mul-rule : tie.Need-mul-rule Inv-loop μ-loop
 mul-rule c = search needs
 
--- src/reader.rt:216:40
 sub-rule : tie.Need-sub-rule Inv-loop μ-loop
 sub-rule c = search needs
 
--- src/reader.rt:216:40
 part-rule-start : tie.Need-part-rule-start Inv-loop μ-loop
 part-rule-start c = search needs
 
--- src/reader.rt:216:40
 part-rule-end : tie.Need-part-rule-end Inv-loop μ-loop
 part-rule-end c = search needs
 
--- src/reader.rt:216:15
 rule-requires : tie.Need-rule-requires Inv-loop μ-loop
 rule-requires c κs =
     let h = c .before .before .loop .inv in
     let a = c .before .before .before .before .before .before .pre in
     (a .0, part-unfilled _ _ _ none _ _ _ _ _ _ _ _ (h .3) 6784 106 (a .1 .1) (omega arith))
 
--- src/reader.rt:217:27
 enum-known-next : tie.Need-enum-known-next Inv-loop μ-loop
 enum-known-next c = search needs
 
--- src/reader.rt:219:17
 add-from : tie.Need-add-from Inv-loop μ-loop
 add-from c = search needs
 
--- src/reader.rt:220:17
 add-k : tie.Need-add-k Inv-loop μ-loop
 add-k c = search needs
 
--- src/reader.rt:215:5
 loop-less : tie.Need-loop-less Inv-loop μ-loop
 loop-less c = search needs
 
--- src/reader.rt:215:5
 loop-again : tie.Need-loop-again Inv-loop μ-loop
 loop-again c =
     let h = c .before .before .before .before .before .before .before .before .loop .inv in
     let f = c .before .before .before .before .before .rule in
     (omega arith, omega arith, part-length (c .before .before .before .before .before .before .before .before .loop .from) 106 (c .before .before .before .before .before .before .before .before .loop .rows) (f .last .1 .1 .1 .0) (f .kept .1 .1 .1 .0) ∙ h .2, more-part _ _ _ none _ _ _ _ _ _ _ _ (h .3) 106 _ _ 0 _ _ (omega arith) (omega arith) (c .before .next .given .1) (f .ensures) (f .kept .1 .1 .1 .0) (λ r e rs m. tt))
 
--- src/reader.rt:222:23
 enum-known-refusal : tie.Need-enum-known-refusal Inv-loop μ-loop
 enum-known-refusal c = search needs
 
--- src/reader.rt:223:17
 same-length : tie.Need-same-length Inv-loop μ-loop
 same-length c =
     let h = c .before .before .before .before .before .before .before .before .loop .inv in
     let f = c .before .before .before .before .before .rule in
     part-length (c .before .before .before .before .before .before .before .before .loop .from) 106 (c .before .before .before .before .before .before .before .before .loop .rows) (f .last .1 .1 .1 .0) (f .kept .1 .1 .1 .0) ∙ h .2 ∙ sym (zeros-length 6784 _ (c .before .before .before .before .before .before .before .before .before .before .before .before .pre .1 .1))
 
--- src/reader.rt:223:17
 returns : tie.Need-returns Inv-loop μ-loop
 returns c =
     let h = c .before .before .before .before .before .before .before .before .loop .inv in
     failed-part _ _ _ none _ _ _ _ _ _ _ _ (h .3) _ _ _ _ _ _ _ (omega arith) (c .before .refusal .given .1) (c .before .before .before .before .before .rule .ensures)
 
--- src/reader.rt:207:1
 same-length-2 : tie.Need-same-length-2 Inv-loop μ-loop
 same-length-2 c = c .before .loop .inv .2 ∙ sym (zeros-length 6784 _ (c .before .before .before .before .before .pre .1 .1))
 
--- src/reader.rt:207:1
 returns-2 : tie.Need-returns-2 Inv-loop μ-loop
 returns-2 c = finished _ _ _ _ _ _ _ _ _ _ _ (c .before .loop .inv .3) _ _ 6784 (λ rs m. refl) (omega arith) (c .before .before .before .before .before .pre .1 .1)
 

@@ -1,21 +1,15 @@
 -- `ruleset::reader::read` meets its contract: the refusals in their order, and a copy of the form that was filled. Assumes nothing.
 use mathlib.Core.Path.{_≡_, refl, sym, ap, _∙_}
-use Prim.Native.Nat.{ℕ, _≤_, _<_, _+_}
-use native.Mathlib.Omega.{arith}
+use Prim.Native.Nat.{ℕ, _≤_, _+_}
 use lib.ListN.{length}
 use Rattle.model.specs.Format.{ruleSet, read}
 use Rattle.ruleset.specs.Step.{none, zeros}
-use Rattle.ruleset.proofs.Lists.{zeros-length}
 use Rattle.ruleset.proofs.Parsing.{Parses, step-good, step-bad}
-use Rattle.ruleset.proofs.Reading.{read-short, read-misstated, read-stated, reading-short, reading-bad, reading-good}
+use Rattle.format_laws.proofs.RoundTrip.{reading-short, reading-bad}
+use Rattle.ruleset.proofs.Reading.{read-short, read-misstated, read-stated, reading-whole}
 use borrow.Author.Needs.{needs}
 use Rattle.ruleset.proofs.reader.read.Statement.{statement}
 use Rattle.ruleset.proofs.reader.read.Tie as tie
-use Rattle.ruleset.proofs.reader.read.Reads as reads
-use Rattle.ruleset.proofs.reader.read.Lts as lts
-use Rattle.ruleset.proofs.reader.copy.Reads as copy-reads
-use Rattle.ruleset.proofs.reader.rule_set.Reads as rule-set-reads
-use Rattle.ruleset.proofs.reader.stated.Reads as stated-reads
 
 -- past the tests of the lengths
 
@@ -28,62 +22,48 @@ whole c = read-stated _ (c .before .before .if2 .left) (ap (λ (n : ℕ). n + 4)
 parsed : (c : tie.After-end) → Parses none (ruleSet (c .before .before .before .before .before .before .before .before .before .before .before .args .bytes .now)) (c .end .given .0 .0) (c .end .given .0 .1 .0)
 parsed c = step-good none _ _ _ (sym (c .end .given .1) ∙ c .before .before .before .rule-set .ensures .answer)
 
--- src/reader.rt:332:9
 returns : tie.Need-returns
 returns c = reading-short _ _ (c .if1 .taken)
 
--- src/reader.rt:335:9
 returns-2 : tie.Need-returns-2
 returns-2 c = reading-bad _ _ _ _ (c .before .if1 .left) (read-short _ (c .if2 .taken))
 
--- src/reader.rt:337:8
 stated-requires : tie.Need-stated-requires
 stated-requires c κs = search needs
 
--- src/reader.rt:337:8
 add-if3 : tie.Need-add-if3
 add-if3 c = search needs
 
--- src/reader.rt:338:9
 returns-3 : tie.Need-returns-3
 returns-3 c = reading-bad _ _ _ _ (c .before .before .before .if1 .left) (read-misstated _ (c .before .before .if2 .left) (λ e. c .if3 .taken (ap (λ (n : ℕ). n + 4) (c .before .stated .ensures .0) ∙ e)))
 
--- src/reader.rt:341:27
 slice-aggregate-rule-set : tie.Need-slice-aggregate-rule-set
 slice-aggregate-rule-set c = search needs
 
--- src/reader.rt:341:11
 rule-set-requires : tie.Need-rule-set-requires
 unfolding zeros
 rule-set-requires c κs = refl
 
--- src/reader.rt:342:23
 enum-known-end : tie.Need-enum-known-end
 enum-known-end c = search needs
 
--- src/reader.rt:343:18
 slice-aggregate-copy : tie.Need-slice-aggregate-copy
 slice-aggregate-copy c = search needs
 
--- src/reader.rt:343:13
 copy-requires : tie.Need-copy-requires
 copy-requires c κs = search needs
 
--- src/reader.rt:346:19
 enum-known-refusal : tie.Need-enum-known-refusal
 enum-known-refusal c = search needs
 
--- src/reader.rt:328:1
 same-length : tie.Need-same-length
 same-length c = search needs
 
--- src/reader.rt:328:1
 returns-4 : tie.Need-returns-4
 returns-4 c =
     let p = parsed (c .before .before .before .before .before .before) in
-    reading-good _ _ (p .result) _ _ _ (long (c .before .before .before .before .before .before .before .before .before .before .before)) (whole (c .before .before .before .before .before .before .before .before .before .before .before) ∙ p .parse) (c .before .before .before .before .before .before .before .before .before .rule-set .ensures .stored _ _ (p .parse)) (c .before .before .before .before .before .before .before .before .before .rule-set .kept .1 .0) (c .before .before .copy .ensures)
+    reading-whole _ _ (p .result) _ _ _ (long (c .before .before .before .before .before .before .before .before .before .before .before)) (whole (c .before .before .before .before .before .before .before .before .before .before .before) ∙ p .parse) (c .before .before .before .before .before .before .before .before .before .rule-set .ensures .stored _ _ (p .parse)) (c .before .before .before .before .before .before .before .before .before .rule-set .kept .1 .0) (c .before .before .copy .ensures)
 
--- src/reader.rt:328:1
 returns-5 : tie.Need-returns-5
 returns-5 c =
     reading-bad _ _ _ _ (long (c .before .before .before .before .before .before)) (whole (c .before .before .before .before .before .before) ∙ step-bad none _ _ _ (sym (c .before .refusal .given .1) ∙ c .before .before .before .before .rule-set .ensures .answer))

@@ -1,28 +1,22 @@
 -- `ruleset::reader::rule` meets its contract: body, count and disjuncts into one row, and then the whole rule tested. Assumes nothing.
-use mathlib.Core.Path.{_≡_, refl, sym, ap, _∙_}
+use mathlib.Core.Path.{_≡_, sym, _∙_}
 use mathlib.Core.List.{List}
-use Prim.Native.Nat.{ℕ, _≤_, _<_, _-_, _+_}
+use Prim.Native.Nat.{ℕ}
 use native.Mathlib.Omega.{arith}
-use lib.ListN.{length, take, drop}
-use Rattle.model.specs.Rules.{Atom, Rule}
-use Rattle.model.specs.Format.{Parsed, good, many, byte, atoms, rule}
+use lib.ListN.{length}
+use Rattle.model.specs.Format.{good, many, byte, atoms, rule}
 use Rattle.model.specs.Lists.{padded, collect}
 use Rattle.model.specs.Form.{group, ruleRow}
-use Rattle.ruleset.specs.Step.{value, zeros, atomsSet, Filled, none}
+use Rattle.ruleset.specs.Step.{value, zeros, atomsSet, Filled}
 use Rattle.ruleset.specs.Heads.{fault}
 use Rattle.ruleset.proofs.Lists.{zeros-length}
 use Rattle.ruleset.proofs.Many.{many-length}
-use Rattle.ruleset.proofs.Parsing.{Parses, step-good, step-value, Within, byte-good, refuses, continues}
+use Rattle.ruleset.proofs.Parsing.{Parses, step-good, step-value, byte-good, refuses, continues}
 use Rattle.ruleset.proofs.Heads.{of}
 use Rattle.ruleset.proofs.RuleRow.{bodied, counted, headed, body-zeros, body-length, bodied-length, counted-length, head-zeros, headed-length, headed-rule, rule-good, rule-bad}
 use borrow.Author.Needs.{needs}
 use Rattle.ruleset.proofs.reader.rule.Statement.{statement}
 use Rattle.ruleset.proofs.reader.rule.Tie as tie
-use Rattle.ruleset.proofs.reader.rule.Reads as reads
-use Rattle.ruleset.proofs.reader.rule.Lts as lts
-use Rattle.ruleset.proofs.reader.atoms.Reads as atoms-reads
-use Rattle.ruleset.proofs.reader.byte.Reads as byte-reads
-use Rattle.ruleset.proofs.reader.many_disjuncts.Reads as many-disjuncts-reads
 
 -- what the places of the code have: the row as it came, the body's part of it, the body and the count
 
@@ -63,86 +57,66 @@ heads : (c : tie.After-many-disjuncts)
     → Filled (λ ds. fault (of (body (c .before .before .before .before .before .before .before) .result) ds)) (λ ds. padded 84 (collect group ds)) (many (c .before .before .before .count .given .0 .0) (atoms (bytes (c .before .before .before .before .before .before .before .before .before .before .before)) (arities (c .before .before .before .before .before .before .before .before .before .before .before))) (c .before .before .before .count .given .0 .1 .0)) (c .many-disjuncts .result) (c .many-disjuncts .last .1 .1 .1 .1 .1 .0)
 heads c = c .many-disjuncts .ensures (body (c .before .before .before .before .before .before .before) .result) (sym (body (c .before .before .before .before .before .before .before) .kept))
 
--- src/reader.rt:187:41
 sub-atoms : tie.Need-sub-atoms
 sub-atoms c = search needs
 
--- src/reader.rt:187:41
 part-atoms-start : tie.Need-part-atoms-start
 part-atoms-start c = search needs
 
--- src/reader.rt:187:41
 part-atoms-end : tie.Need-part-atoms-end
 part-atoms-end c = omega (arith, zeros-length 106 _ (c .before .before .before .pre .1))
 
--- src/reader.rt:187:9
 atoms-requires : tie.Need-atoms-requires
 atoms-requires c κs = (c .before .before .before .before .pre .0, body-zeros _ (c .before .before .before .before .pre .1))
 
--- src/reader.rt:188:20
 enum-known-body : tie.Need-enum-known-body
 enum-known-body c = search needs
 
--- src/reader.rt:189:9
 enum-told : tie.Need-enum-told
 enum-told c = search needs
 
--- src/reader.rt:189:9
 same-length : tie.Need-same-length
 same-length c = search needs
 
--- src/reader.rt:189:9
 returns : tie.Need-returns
 unfolding rule
 returns c = refuses _ _ _ _ _ _ atomsSet _ _ (c .before .before .before .before .atoms .ensures .answer) (c .enum-told .given .1)
 
--- src/reader.rt:191:9
 byte-requires : tie.Need-byte-requires
 byte-requires c κs = search needs
 
--- src/reader.rt:192:20
 enum-known-count : tie.Need-enum-known-count
 enum-known-count c = search needs
 
--- src/reader.rt:193:9
 enum-told-2 : tie.Need-enum-told-2
 enum-told-2 c = search needs
 
--- src/reader.rt:193:9
 same-length-2 : tie.Need-same-length-2
 same-length-2 c = search needs
 
--- src/reader.rt:193:9
 returns-2 : tie.Need-returns-2
 unfolding rule
 returns-2 c =
     continues _ _ _ _ _ _ _ _ (body (c .before .before .before .before) .parse) (refuses _ _ _ _ _ _ value _ _ (c .before .before .byte .ensures) (c .enum-told2 .given .1))
 
--- src/reader.rt:195:14
 cast-row : tie.Need-cast-row
 cast-row c = search needs
 
--- src/reader.rt:195:5
 slice-write-row : tie.Need-slice-write-row
 slice-write-row c = omega (arith, bodied-wide (c .before .before .before .before .before .before .before .before .before))
 
--- src/reader.rt:196:52
 cast-many-disjuncts : tie.Need-cast-many-disjuncts
 cast-many-disjuncts c = search needs
 
--- src/reader.rt:196:67
 sub-many-disjuncts : tie.Need-sub-many-disjuncts
 sub-many-disjuncts c = omega (arith, counted-wide (c .before))
 
--- src/reader.rt:196:67
 part-many-disjuncts-start : tie.Need-part-many-disjuncts-start
 part-many-disjuncts-start c = omega (arith, counted-wide (c .before))
 
--- src/reader.rt:196:67
 part-many-disjuncts-end : tie.Need-part-many-disjuncts-end
 part-many-disjuncts-end c = search needs
 
--- src/reader.rt:196:9
 many-disjuncts-requires : tie.Need-many-disjuncts-requires
 many-disjuncts-requires c κs =
     (c .before .before .before .before .before .before .before .before .before .before .before .before .before .before .before .pre .0, (byte-good _ _ _ _ _ _ _ (count (c .before .before)) .most, head-zeros _ (row-zeros (c .before .before .before .before .before .before .before .before .before .before)) (left (c .before .before .before .before .before .before .before .before .before .before)) _ (left-length (c .before .before .before .before .before .before .before .before .before .before))))
@@ -167,38 +141,30 @@ stored c =
     (heads (c .before .before .before .before) .stored _ _ (head c .parse))
     (many-length _ _ _ _ _ (head c .parse))
 
--- src/reader.rt:197:20
 enum-known-head : tie.Need-enum-known-head
 enum-known-head c = search needs
 
--- src/reader.rt:198:9
 enum-told-3 : tie.Need-enum-told-3
 enum-told-3 c = search needs
 
--- src/reader.rt:198:9
 same-length-3 : tie.Need-same-length-3
 same-length-3 c = whole-length (c .before .before .before .before)
 
--- src/reader.rt:198:9
 returns-3 : tie.Need-returns-3
 unfolding rule
 returns-3 c =
     continues _ _ _ _ _ _ _ _ (body (c .before .before .before .before .before .before .before .before .before .before .before) .parse)
     (continues _ _ _ _ _ _ _ _ (count (c .before .before .before .before .before .before .before)) (refuses _ _ _ _ _ _ _ _ _ (heads (c .before .before .before .before) .answer) (c .enum-told3 .given .1)))
 
--- src/reader.rt:201:9
 same-length-4 : tie.Need-same-length-4
 same-length-4 c = whole-length (c .before .before .before .before .before .before)
 
--- src/reader.rt:201:9
 returns-4 : tie.Need-returns-4
 returns-4 c = let h = head (c .before .before) in rule-bad _ _ _ _ _ _ _ _ _ _ (body (c .before .before .before .before .before .before .before .before .before .before .before .before .before) .parse) (count (c .before .before .before .before .before .before .before .before .before)) (h .parse) _ (h .kept) (c .if1 .taken)
 
--- src/reader.rt:182:1
 same-length-5 : tie.Need-same-length-5
 same-length-5 c = whole-length (c .before .before .before .before .before .before)
 
--- src/reader.rt:182:1
 returns-5 : tie.Need-returns-5
 returns-5 c =
     let h = head (c .before .before) in

@@ -1,23 +1,17 @@
 -- `ruleset::reader::rule_set` meets its contract: version, count of predicates and arities, and then what follows them. Assumes nothing.
 use mathlib.Core.Path.{_≡_, refl, sym, ap, _∙_}
 use mathlib.Core.List.{List}
-use Prim.Native.Nat.{ℕ, _≤_, _<_, _-_, _+_}
+use Prim.Native.Nat.{ℕ}
 use native.Mathlib.Omega.{arith}
-use lib.ListN.{length, take, drop}
-use Rattle.model.specs.Format.{Parsed, good, many, byte, ruleSet}
+use lib.ListN.{length, take}
+use Rattle.model.specs.Format.{good, many, byte, ruleSet}
 use Rattle.ruleset.specs.Step.{value, none, zeros}
-use Rattle.ruleset.proofs.Lists.{zeros-length}
 use Rattle.ruleset.proofs.Many.{many-length}
 use Rattle.ruleset.proofs.Parsing.{Parses, step-good, step-value, Within, byte-good, refuses, continues}
 use Rattle.ruleset.proofs.FormRow.{arities-good, arities-taken, rule-set-filled}
 use borrow.Author.Needs.{needs}
 use Rattle.ruleset.proofs.reader.rule_set.Statement.{statement}
 use Rattle.ruleset.proofs.reader.rule_set.Tie as tie
-use Rattle.ruleset.proofs.reader.rule_set.Reads as reads
-use Rattle.ruleset.proofs.reader.rule_set.Lts as lts
-use Rattle.ruleset.proofs.reader.after_arities.Reads as after-arities-reads
-use Rattle.ruleset.proofs.reader.byte.Reads as byte-reads
-use Rattle.ruleset.proofs.reader.many_arities.Reads as many-arities-reads
 
 version : (c : tie.After-version) → byte (c .before .before .before .before .before .args .bytes .now) 1 1 3 4 ≡ good (c .version .given .0 .0) (c .version .given .0 .1 .0)
 version c = step-value _ _ _ (sym (c .version .given .1) ∙ c .before .before .byte .ensures)
@@ -25,7 +19,7 @@ version c = step-value _ _ _ (sym (c .version .given .1) ∙ c .before .before .
 count : (c : tie.After-count) → byte (c .before .before .before .before .before .before .before .before .before .args .bytes .now) 1 64 4 (c .before .before .before .before .version .given .0 .1 .0) ≡ good (c .count .given .0 .0) (c .count .given .0 .1 .0)
 count c = step-value _ _ _ (sym (c .count .given .1) ∙ c .before .before .byte2 .ensures)
 
-counted : (c : tie.After-count) → Within 1 64 (c .before .before .before .before .version .given .0 .1 .0) (c .count .given .0 .0) (c .count .given .0 .1 .0)
+counted : (c : tie.After-count) → Within (c .before .before .before .before .before .before .before .before .before .args .bytes .now) 1 64 (c .before .before .before .before .version .given .0 .1 .0) (c .count .given .0 .0) (c .count .given .0 .1 .0)
 counted c = byte-good _ _ _ _ _ _ _ (count c)
 
 listed : (c : tie.After-listed)
@@ -40,94 +34,74 @@ places c = c .before .before .before .many-arities .last .1 .1 .1 .0
 taken : (c : tie.After-listed) → take (c .before .before .before .before .before .before .count .given .0 .0) (places c) ≡ listed c .result
 taken c = arities-taken _ _ _ _ _ (listed c .parse) (places c) (c .before .before .before .many-arities .ensures .stored _ _ (listed c .parse))
 
--- src/reader.rt:301:9
 byte-requires : tie.Need-byte-requires
 byte-requires c κs = search needs
 
--- src/reader.rt:302:23
 enum-known-version : tie.Need-enum-known-version
 enum-known-version c = search needs
 
--- src/reader.rt:303:9
 enum-told : tie.Need-enum-told
 enum-told c = search needs
 
--- src/reader.rt:303:9
 returns : tie.Need-returns
 unfolding ruleSet
 returns c = refuses _ _ _ _ _ _ value _ _ (c .before .before .byte .ensures) (c .enum-told .given .1)
 
--- src/reader.rt:305:9
 byte-requires-2 : tie.Need-byte-requires-2
 byte-requires-2 c κs = search needs
 
--- src/reader.rt:306:20
 enum-known-count : tie.Need-enum-known-count
 enum-known-count c = search needs
 
--- src/reader.rt:307:9
 enum-told-2 : tie.Need-enum-told-2
 enum-told-2 c = search needs
 
--- src/reader.rt:307:9
 returns-2 : tie.Need-returns-2
 unfolding ruleSet
 returns-2 c = continues _ _ _ _ _ _ _ _ (version (c .before .before .before .before)) (refuses _ _ _ _ _ _ value _ _ (c .before .before .byte2 .ensures) (c .enum-told2 .given .1))
 
--- src/reader.rt:310:38
 cast-many-arities : tie.Need-cast-many-arities
 cast-many-arities c = search needs
 
--- src/reader.rt:310:53
 slice-aggregate-many-arities : tie.Need-slice-aggregate-many-arities
 slice-aggregate-many-arities c = search needs
 
--- src/reader.rt:310:9
 many-arities-requires : tie.Need-many-arities-requires
 unfolding zeros
 many-arities-requires c κs = (counted (c .before .before) .most, refl)
 
--- src/reader.rt:311:23
 enum-known-listed : tie.Need-enum-known-listed
 enum-known-listed c = search needs
 
--- src/reader.rt:312:9
 enum-told-3 : tie.Need-enum-told-3
 enum-told-3 c = search needs
 
--- src/reader.rt:312:9
 returns-3 : tie.Need-returns-3
 unfolding ruleSet
 returns-3 c =
     continues _ _ _ _ _ _ _ _ (version (c .before .before .before .before .before .before .before .before .before .before))
     (continues _ _ _ _ _ _ _ _ (count (c .before .before .before .before .before .before)) (refuses _ _ _ _ _ _ none _ _ (c .before .before .before .many-arities .ensures .answer) (c .enum-told3 .given .1)))
 
--- src/reader.rt:314:37
 cast-arities : tie.Need-cast-arities
 cast-arities c = search needs
 
--- src/reader.rt:314:26
 array-share-prefix-arities : tie.Need-array-share-prefix-arities
 array-share-prefix-arities c =
     let h = counted (c .before .before .before .before .before .before .before) .most in
     let l = c .before .before .before .before .many-arities .kept .1 .1 .1 .0 in
     omega arith
 
--- src/reader.rt:314:26
 slice-aggregate-after-arities : tie.Need-slice-aggregate-after-arities
 slice-aggregate-after-arities c = sym (ap length (taken (c .before .before)) ∙ many-length _ _ _ _ _ (listed (c .before .before) .parse))
 
--- src/reader.rt:314:5
 after-arities-requires : tie.Need-after-arities-requires
 after-arities-requires c κs =
     let h = counted (c .before .before .before .before .before .before .before .before .before) in
     (rw (taken (c .before .before .before)) (arities-good _ _ _ _ _ (listed (c .before .before .before) .parse) (h .least) (h .most)), c .before .before .before .before .before .before .before .before .before .before .before .before .before .before .before .before .before .before .pre)
 
--- src/reader.rt:297:1
 same-length : tie.Need-same-length
 same-length c = search needs
 
--- src/reader.rt:297:1
 returns-4 : tie.Need-returns-4
 returns-4 c =
     rule-set-filled _ _ _ _ _ (listed (c .before .before .before .before .before .before) .parse) _ _ _ _ _ (version (c .before .before .before .before .before .before .before .before .before .before .before .before .before .before .before .before)) (count (c .before .before .before .before .before .before .before .before .before .before .before .before)) (taken (c .before .before .before .before .before .before)) (c .before .before .after-arities .ensures)

@@ -1,21 +1,18 @@
 -- `ruleset::reader::variables` meets its contract: between turns the loop is as `Progress` says. Assumes nothing.
-use Prim.Native.Nat.{ℕ, _≤_, _-_, _+_}
-use mathlib.Core.Path.{_≡_, refl, sym, ap, _∙_}
+use Prim.Native.Nat.{_≤_, _-_}
+use mathlib.Core.Path.{_≡_, refl, sym, _∙_}
 use native.Mathlib.Omega.{arith}
 use borrow.Author.Needs.{needs}
 use lib.ListN.{length, length-set}
 use Rattle.model.specs.Format.{good, variable}
 use Rattle.ruleset.specs.Sets.{setOf}
 use Rattle.ruleset.specs.Step.{value}
-use Rattle.ruleset.proofs.Lists.{single, set-part, collect-single}
+use Rattle.ruleset.proofs.Lists.{single}
 use Rattle.ruleset.proofs.Sets.{setOf-more}
-use Rattle.ruleset.proofs.Parsing.{step-value, step-bad, Within, variable-good}
+use Rattle.ruleset.proofs.Parsing.{step-value, step-bad, variable-good}
 use Rattle.ruleset.proofs.Many.{Progress, begun, more-single, finished-single, failed}
 use Rattle.ruleset.proofs.reader.variables.Statement.{statement}
 use Rattle.ruleset.proofs.reader.variables.Tie as tie
-use Rattle.ruleset.proofs.reader.variables.Reads as reads
-use Rattle.ruleset.proofs.reader.variables.Lts as lts
-use Rattle.ruleset.proofs.reader.variable.Reads as variable-reads
 
 abbrev Inv-loop : tie.InvT-loop
 Inv-loop bytes n i row₀ set₀ at₀ k₀ row set at k = (k ≤ n) × (length row ≡ length row₀) × Progress (variable bytes) (λ vs s. setOf vs ≡ s) single n i row₀ k at k set row
@@ -23,16 +20,13 @@ Inv-loop bytes n i row₀ set₀ at₀ k₀ row set at k = (k ≤ n) × (length 
 abbrev μ-loop : tie.MeasureT-loop
 μ-loop bytes n i row₀ set₀ at₀ k₀ row set at k = n - k
 
--- src/reader.rt:48:5
 loop-holds : tie.Need-loop-holds Inv-loop μ-loop
 unfolding setOf
 loop-holds c = (omega arith, refl, begun _ _ _ _ _ _ _ refl)
 
--- src/reader.rt:49:15
 variable-requires : tie.Need-variable-requires Inv-loop μ-loop
 variable-requires c κs = search needs
 
--- src/reader.rt:50:24
 enum-known-v : tie.Need-enum-known-v Inv-loop μ-loop
 enum-known-v c = search needs
 
@@ -44,55 +38,43 @@ read c = step-value _ _ _ (sym (c .v .given .1) ∙ c .before .before .variable 
 read-small : (c : tie.After-v Inv-loop μ-loop) → c .v .given .0 .0 ≤ 7
 read-small c = variable-good _ _ _ _ (read c) .most
 
--- src/reader.rt:51:26
 cast-row : tie.Need-cast-row Inv-loop μ-loop
 cast-row c = search needs
 
--- src/reader.rt:51:17
 mul-row : tie.Need-mul-row Inv-loop μ-loop
 mul-row c = search needs
 
--- src/reader.rt:51:17
 slice-write-row : tie.Need-slice-write-row Inv-loop μ-loop
 slice-write-row c = search needs
 
--- src/reader.rt:52:29
 shl-set : tie.Need-shl-set Inv-loop μ-loop
 shl-set c = omega (arith, read-small (c .before))
 
--- src/reader.rt:54:17
 add-k : tie.Need-add-k Inv-loop μ-loop
 add-k c = search needs
 
--- src/reader.rt:48:5
 loop-less : tie.Need-loop-less Inv-loop μ-loop
 loop-less c = search needs
 
--- src/reader.rt:48:5
 loop-again : tie.Need-loop-again Inv-loop μ-loop
 loop-again c =
     let h = c .before .before .before .before .before .loop .inv in
     (omega arith, simp length-set (h .1), more-single _ _ _ _ _ _ _ _ _ (h .2) _ _ _ (omega arith) (omega arith) (read (c .before)) (λ vs e. setOf-more vs _ _ (read-small (c .before)) e))
 
--- src/reader.rt:56:23
 enum-known-refusal : tie.Need-enum-known-refusal Inv-loop μ-loop
 enum-known-refusal c = search needs
 
--- src/reader.rt:57:17
 same-length : tie.Need-same-length Inv-loop μ-loop
 same-length c = search needs
 
--- src/reader.rt:57:17
 returns : tie.Need-returns Inv-loop μ-loop
 returns c =
     failed _ _ _ _ _ _ _ _ _ _ _ (c .before .before .before .before .before .loop .inv .2) _ _ _ _ _ (omega arith)
     (step-bad value _ _ _ (sym (c .before .refusal .given .1) ∙ c .before .before .before .variable .ensures))
 
--- src/reader.rt:41:1
 same-length-2 : tie.Need-same-length-2 Inv-loop μ-loop
 same-length-2 c = search needs
 
--- src/reader.rt:41:1
 returns-2 : tie.Need-returns-2 Inv-loop μ-loop
 returns-2 c = finished-single _ _ _ _ _ _ _ _ _ (c .before .loop .inv .2) _ _ _ (λ vs e. e) (omega arith) (c .before .before .before .before .pre .1)
 

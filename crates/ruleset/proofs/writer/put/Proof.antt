@@ -4,34 +4,25 @@ use Rattle.ruleset.proofs.Writing.{took-bad, took-good, writes-below, w
 use borrow.Author.Needs.{needs}
 use Rattle.ruleset.proofs.writer.put.Statement.{statement}
 use Rattle.ruleset.proofs.writer.put.Tie as tie
-use Rattle.ruleset.proofs.writer.put.Reads as reads
-use Rattle.ruleset.proofs.writer.put.Lts as lts
 
--- src/writer.rt:34:9
 returns : tie.Need-returns
 returns c = (writes-below _ _ _ _ _ _ (c .if1 .taken) _, took-bad _ _ _ _ _ _)
 
--- src/writer.rt:37:9
 returns-2 : tie.Need-returns-2
 returns-2 c = (writes-above _ _ _ _ _ _ (omega arith) (c .if2 .taken) _, took-bad _ _ _ _ _ _)
 
--- src/writer.rt:39:13
 cast-b : tie.Need-cast-b
 cast-b c = search needs
 
--- src/writer.rt:40:5
 slice-write-out : tie.Need-slice-write-out
 slice-write-out c = search needs
 
--- src/writer.rt:41:19
 add-t11 : tie.Need-add-t11
 add-t11 c = search needs
 
--- src/writer.rt:29:1
 same-length : tie.Need-same-length
 same-length c = search needs
 
--- src/writer.rt:29:1
 returns-3 : tie.Need-returns-3
 returns-3 c =
     let h = c .before .if1 .left in

@@ -1,5 +1,5 @@
 -- `ruleset::writer::put_arities` meets its contract: between turns the loop is as `Writing` says. Assumes nothing.
-use mathlib.Core.Path.{_≡_, refl, sym, ap, _∙_}
+use mathlib.Core.Path.{_≡_, refl, ap, _∙_}
 use Prim.Native.Nat.{ℕ, _≤_, _<_, _-_, _+_}
 use native.Mathlib.Omega.{arith}
 use borrow.Author.Needs.{needs}
@@ -7,17 +7,12 @@ use lib.ListN.{length, getD}
 use Rattle.model.specs.Lists.{numbersFrom}
 use Rattle.model.specs.Format.{byte}
 use Rattle.ruleset.specs.Step.{value}
-use Rattle.ruleset.specs.Writes.{Took}
 use Rattle.ruleset.proofs.Many.{Anything}
 use Rattle.ruleset.proofs.Spelling.{numbers-next, numbers-none, numbers-whole}
 use Rattle.ruleset.proofs.Places.{numbers-small, small-more}
 use Rattle.ruleset.proofs.Writing.{Writing, writing-begun, writing-more, writing-refused, writing-ended, ends-bad, ends-good, small-bad, small-good}
 use Rattle.ruleset.proofs.writer.put_arities.Statement.{statement}
 use Rattle.ruleset.proofs.writer.put_arities.Tie as tie
-use Rattle.ruleset.proofs.writer.put_arities.Reads as reads
-use Rattle.ruleset.proofs.writer.put_arities.Lts as lts
-use Rattle.ruleset.proofs.writer.number.Reads as number-reads
-use Rattle.ruleset.proofs.writer.put.Reads as put-reads
 
 abbrev Inv-loop : tie.InvT-loop
 Inv-loop form n i out₀ j₀ from₀ k₀ out j from k =
@@ -27,35 +22,27 @@ Inv-loop form n i out₀ j₀ from₀ k₀ out j from k =
 abbrev μ-loop : tie.MeasureT-loop
 μ-loop form n i out₀ j₀ from₀ k₀ out j from k = n - k
 
--- src/writer.rt:211:5
 loop-holds : tie.Need-loop-holds Inv-loop μ-loop
 loop-holds c = (omega arith, omega arith, omega arith, refl, (λ p l. absurd (omega arith)), writing-begun _ _ _ _ _ _ 0 _ (numbers-whole _ _ _) tt)
 
--- src/writer.rt:212:19
 number-requires : tie.Need-number-requires Inv-loop μ-loop
 number-requires c κs = search needs
 
--- src/writer.rt:212:15
 put-requires : tie.Need-put-requires Inv-loop μ-loop
 put-requires c κs = omega arith
 
--- src/writer.rt:213:27
 enum-known-next : tie.Need-enum-known-next Inv-loop μ-loop
 enum-known-next c = search needs
 
--- src/writer.rt:215:17
 add-from : tie.Need-add-from Inv-loop μ-loop
 add-from c = search needs
 
--- src/writer.rt:216:17
 add-k : tie.Need-add-k Inv-loop μ-loop
 add-k c = search needs
 
--- src/writer.rt:211:5
 loop-less : tie.Need-loop-less Inv-loop μ-loop
 loop-less c = search needs
 
--- src/writer.rt:211:5
 loop-again : tie.Need-loop-again Inv-loop μ-loop
 loop-again c =
     let h = c .before .before .before .before .before .before .before .before .before .loop .inv in
@@ -65,26 +52,21 @@ loop-again c =
     let t : getD (c .before .before .before .before .before .before .before .before .before .before .before .before .args .form .now) (6786 + c .before .before .before .before .before .before .before .before .before .loop .k) 0 ≤ 4 = omega (arith, ap (λ (x : ℕ). getD (c .before .before .before .before .before .before .before .before .before .before .before .before .args .form .now) x 0) (h .1), p .ensures .1 .most _ _ e) in
     (omega arith, omega arith, omega (arith, p .ensures .1 .next _ _ e), p .kept .1 .1 .1 .1 .1 .0 ∙ h .3, small-more (c .before .before .before .before .before .before .before .before .before .before .before .before .args .form .now) 6786 (c .before .before .before .before .before .before .before .before .before .loop .k) 4 (h .4) t, writing-more _ _ _ _ _ _ _ _ _ _ _ (h .5) value _ _ _ _ _ _ 0 (omega arith) (numbers-next _ _ _ _ _ (omega arith) z) e (p .ensures .0) (λ v f vs m. tt))
 
--- src/writer.rt:218:23
 enum-known-refusal : tie.Need-enum-known-refusal Inv-loop μ-loop
 enum-known-refusal c = search needs
 
--- src/writer.rt:219:17
 same-length : tie.Need-same-length Inv-loop μ-loop
 same-length c = search needs
 
--- src/writer.rt:219:17
 returns : tie.Need-returns Inv-loop μ-loop
 returns c =
     let h = c .before .before .before .before .before .before .before .before .before .loop .inv in
     let p = c .before .before .before .before .before .put in
     (writing-refused _ _ _ _ _ _ _ _ _ _ _ (h .5) value _ _ _ _ _ _ _ _ (omega arith) (numbers-next _ _ _ _ _ (omega arith) (c .before .before .before .before .before .before .before .number .ensures)) (c .before .refusal .given .1) (p .ensures .0), ends-bad _ _ _ _, small-bad _ _ _)
 
--- src/writer.rt:204:1
 same-length-2 : tie.Need-same-length-2 Inv-loop μ-loop
 same-length-2 c = search needs
 
--- src/writer.rt:204:1
 returns-2 : tie.Need-returns-2 Inv-loop μ-loop
 returns-2 c =
     let h = c .before .loop .inv in

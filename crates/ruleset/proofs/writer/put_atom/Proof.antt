@@ -1,25 +1,15 @@
 -- `ruleset::writer::put_atom` meets its contract: the predicate, and then as many variables as its arity says. Assumes nothing.
-use mathlib.Core.Path.{_≡_, refl, sym, ap, _∙_}
-use Prim.Native.Nat.{ℕ, _≤_, _<_, _-_, _+_}
+use Prim.Native.Nat.{_≤_}
 use native.Mathlib.Omega.{arith}
-use lib.ListN.{length, getD}
-use Rattle.model.specs.Lists.{numbersFrom}
-use Rattle.ruleset.specs.Step.{Arities}
-use Rattle.ruleset.specs.Writes.{Took, Ends}
-use Rattle.ruleset.proofs.Places.{numbers-at, numbers-length}
-use Rattle.ruleset.proofs.Writing.{ends-bad}
+use Rattle.format_laws.proofs.Places.{numbersFrom-length}
+use Rattle.ruleset.proofs.Places.{numbers-at}
 use Rattle.ruleset.proofs.AtomWriting.{atom-refused, atom-written, ends-within, ends-refused}
 use borrow.Author.Needs.{needs}
 use Rattle.ruleset.proofs.writer.put_atom.Statement.{statement}
 use Rattle.ruleset.proofs.writer.put_atom.Tie as tie
-use Rattle.ruleset.proofs.writer.put_atom.Reads as reads
-use Rattle.ruleset.proofs.writer.put_atom.Lts as lts
-use Rattle.ruleset.proofs.writer.number.Reads as number-reads
-use Rattle.ruleset.proofs.writer.put.Reads as put-reads
-use Rattle.ruleset.proofs.writer.put_variables.Reads as put-variables-reads
 
 some : (c : tie.Start) → 1 ≤ c .args .n
-some c = let h = c .pre .0 .some in let e = numbers-length (c .args .form .now) 6786 (c .args .n) in omega arith
+some c = let h = c .pre .0 .some in let e = numbersFrom-length (c .args .form .now) 6786 (c .args .n) in omega arith
 
 -- the arity of a declared predicate
 small : (c : tie.After-number2) → c .number2 .result ≤ 4
@@ -34,59 +24,45 @@ small c =
     let z = c .number2 .ensures in
     omega arith
 
--- src/writer.rt:75:20
 number-requires : tie.Need-number-requires
 number-requires c κs = search needs
 
--- src/writer.rt:75:42
 sub-put : tie.Need-sub-put
 sub-put c = some (c .before .before .before)
 
--- src/writer.rt:75:41
 cast-put : tie.Need-cast-put
 cast-put c = search needs
 
--- src/writer.rt:75:9
 put-requires : tie.Need-put-requires
 put-requires c κs = search needs
 
--- src/writer.rt:76:20
 enum-known-head : tie.Need-enum-known-head
 enum-known-head c = search needs
 
--- src/writer.rt:77:9
 enum-told : tie.Need-enum-told
 enum-told c = search needs
 
--- src/writer.rt:77:9
 same-length : tie.Need-same-length
 same-length c = search needs
 
--- src/writer.rt:77:9
 returns : tie.Need-returns
 returns c = (atom-refused _ _ _ _ _ _ _ _ (c .before .before .before .before .before .before .number .ensures) (c .before .before .before .before .put .ensures .0) _ _ _ (c .enum-told .given .1), ends-refused _ _ _ _ _ (c .enum-told .given .1))
 
--- src/writer.rt:79:37
 cast-number : tie.Need-cast-number
 cast-number c = search needs
 
--- src/writer.rt:79:30
 add-number : tie.Need-add-number
 add-number c = search needs
 
--- src/writer.rt:79:17
 number-requires-2 : tie.Need-number-requires-2
 number-requires-2 c κs = search needs
 
--- src/writer.rt:79:17
 cast-arity : tie.Need-cast-arity
 cast-arity c = search needs
 
--- src/writer.rt:80:32
 add-put-variables : tie.Need-add-put-variables
 add-put-variables c = search needs
 
--- src/writer.rt:80:5
 put-variables-requires : tie.Need-put-variables-requires
 put-variables-requires c κs =
     let t = c .before .before .before .before .before .before .before .put .ensures .1 .next _ _ (c .before .before .before .head .given .1) in
@@ -95,11 +71,9 @@ put-variables-requires c κs =
     let h = c .before .before .before .before .before .before .before .before .before .before .before .before .pre .1 in
     (omega arith, omega arith)
 
--- src/writer.rt:70:1
 same-length-2 : tie.Need-same-length-2
 same-length-2 c = search needs
 
--- src/writer.rt:70:1
 returns-2 : tie.Need-returns-2
 returns-2 c =
     let p = c .before .before .before .before .before .before .before .before .before .before .put in

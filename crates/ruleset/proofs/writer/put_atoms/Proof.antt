@@ -1,52 +1,34 @@
 -- `ruleset::writer::put_atoms` meets its contract: the count, and then so many atoms. Assumes nothing.
-use mathlib.Core.Path.{_≡_, refl, sym, ap, _∙_}
-use Prim.Native.Nat.{ℕ, _≤_, _<_, _-_, _+_}
 use native.Mathlib.Omega.{arith}
-use lib.ListN.{length, getD}
-use Rattle.ruleset.specs.Writes.{Took, Ends}
 use Rattle.ruleset.proofs.AtomWriting.{atoms-refused, atoms-written, ends-within, ends-refused}
 use borrow.Author.Needs.{needs}
 use Rattle.ruleset.proofs.writer.put_atoms.Statement.{statement}
 use Rattle.ruleset.proofs.writer.put_atoms.Tie as tie
-use Rattle.ruleset.proofs.writer.put_atoms.Reads as reads
-use Rattle.ruleset.proofs.writer.put_atoms.Lts as lts
-use Rattle.ruleset.proofs.writer.number.Reads as number-reads
-use Rattle.ruleset.proofs.writer.put.Reads as put-reads
-use Rattle.ruleset.proofs.writer.put_many_atoms.Reads as put-many-atoms-reads
 
--- src/writer.rt:115:21
 number-requires : tie.Need-number-requires
 number-requires c κs = search needs
 
--- src/writer.rt:115:9
 put-requires : tie.Need-put-requires
 put-requires c κs = search needs
 
--- src/writer.rt:116:20
 enum-known-first : tie.Need-enum-known-first
 enum-known-first c = search needs
 
--- src/writer.rt:117:9
 enum-told : tie.Need-enum-told
 enum-told c = search needs
 
--- src/writer.rt:117:9
 same-length : tie.Need-same-length
 same-length c = search needs
 
--- src/writer.rt:117:9
 returns : tie.Need-returns
 returns c = (atoms-refused _ _ _ _ _ _ _ _ (c .before .before .before .before .before .before .number .ensures) (c .before .before .before .before .put .ensures .0) _ _ _ (c .enum-told .given .1), ends-refused _ _ _ _ _ (c .enum-told .given .1))
 
--- src/writer.rt:119:29
 cast-put-many-atoms : tie.Need-cast-put-many-atoms
 cast-put-many-atoms c = search needs
 
--- src/writer.rt:119:45
 add-put-many-atoms : tie.Need-add-put-many-atoms
 add-put-many-atoms c = search needs
 
--- src/writer.rt:119:5
 put-many-atoms-requires : tie.Need-put-many-atoms-requires
 put-many-atoms-requires c κs =
     let t = c .before .before .before .before .before .before .put .ensures .1 in
@@ -58,11 +40,9 @@ put-many-atoms-requires c κs =
     let h = c .before .before .before .before .before .before .before .before .before .before .before .pre .1 in
     (c .before .before .before .before .before .before .before .before .before .before .before .pre .0, (omega arith, omega arith, omega arith, omega arith))
 
--- src/writer.rt:110:1
 same-length-2 : tie.Need-same-length-2
 same-length-2 c = search needs
 
--- src/writer.rt:110:1
 returns-2 : tie.Need-returns-2
 returns-2 c =
     let p = c .before .before .before .before .before .before .before .before .before .put in

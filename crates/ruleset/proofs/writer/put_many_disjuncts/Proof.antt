@@ -1,7 +1,6 @@
 -- `ruleset::writer::put_many_disjuncts` meets its contract: between turns the loop is as `Writing` says. Assumes nothing.
-use mathlib.Core.Path.{_≡_, refl, sym, ap, _∙_}
-use mathlib.Core.List.{List, []}
-use Prim.Native.Nat.{ℕ, _≤_, _<_, _-_, _+_, _*_}
+use mathlib.Core.Path.{_≡_, refl, sym, _∙_}
+use Prim.Native.Nat.{_≤_, _-_, _+_, _*_}
 use native.Mathlib.Omega.{arith}
 use borrow.Author.Needs.{needs}
 use lib.ListN.{length}
@@ -10,16 +9,10 @@ use Rattle.model.specs.Format.{atoms, atomsBytes}
 use Rattle.model.specs.Form.{spaced, groupAt}
 use Rattle.ruleset.specs.Step.{atomsSet}
 use Rattle.ruleset.proofs.Heads.{Keeps, seen-none, keeps-more, fault-is}
-use Rattle.ruleset.specs.Writes.{Ends}
 use Rattle.ruleset.proofs.Spelling.{spaced-next, spaced-none, spaced-whole}
 use Rattle.ruleset.proofs.Writing.{Writing, writing-begun, writing-more, writing-refused, writing-ended, ends-bad, ends-good}
 use Rattle.ruleset.proofs.writer.put_many_disjuncts.Statement.{statement}
 use Rattle.ruleset.proofs.writer.put_many_disjuncts.Tie as tie
-use Rattle.ruleset.proofs.writer.put_many_disjuncts.Reads as reads
-use Rattle.ruleset.proofs.writer.put_many_disjuncts.Lts as lts
-use Rattle.ruleset.proofs.reader.fault.Reads as fault-reads
-use Rattle.ruleset.proofs.reader.lacks.Reads as lacks-reads
-use Rattle.ruleset.proofs.writer.put_atoms.Reads as put-atoms-reads
 
 abbrev Inv-loop : tie.InvT-loop
 Inv-loop form n body count at i out₀ seen₀ again₀ apart₀ j₀ from₀ k₀ out seen again apart j from k =
@@ -29,38 +22,30 @@ Inv-loop form n body count at i out₀ seen₀ again₀ apart₀ j₀ from₀ k�
 abbrev μ-loop : tie.MeasureT-loop
 μ-loop form n body count at i out₀ seen₀ again₀ apart₀ j₀ from₀ k₀ out seen again apart j from k = count - k
 
--- src/writer.rt:136:5
 loop-holds : tie.Need-loop-holds Inv-loop μ-loop
 loop-holds c = (omega arith, omega arith, omega arith, refl, writing-begun _ _ _ _ _ _ _ _ (spaced-whole _ _ _ _ _) (λ b e. seen-none _))
 
--- src/writer.rt:137:15
 put-atoms-requires : tie.Need-put-atoms-requires Inv-loop μ-loop
 put-atoms-requires c κs =
     let h = c .before .before .loop .inv in
     let p = c .before .before .before .before .before .pre .1 in
     (c .before .before .before .before .before .pre .0, (omega arith, omega arith, omega arith))
 
--- src/writer.rt:138:24
 enum-known-set : tie.Need-enum-known-set Inv-loop μ-loop
 enum-known-set c = search needs
 
--- src/writer.rt:142:33
 lacks-requires : tie.Need-lacks-requires Inv-loop μ-loop
 lacks-requires c κs = search needs
 
--- src/writer.rt:144:17
 add-from : tie.Need-add-from Inv-loop μ-loop
 add-from c = search needs
 
--- src/writer.rt:145:17
 add-k : tie.Need-add-k Inv-loop μ-loop
 add-k c = search needs
 
--- src/writer.rt:136:5
 loop-less : tie.Need-loop-less Inv-loop μ-loop
 loop-less c = search needs
 
--- src/writer.rt:136:5
 loop-again : tie.Need-loop-again Inv-loop μ-loop
 loop-again c =
     let h = c .before .before .before .before .before .before .before .before .before .loop .inv in
@@ -68,30 +53,24 @@ loop-again c =
     let e = c .before .before .set .given .1 in
     (omega arith, omega arith, omega (arith, p .ensures .1 .most _ _ e), p .kept .1 .1 .1 .1 .0 ∙ h .3, writing-more _ _ _ _ _ _ _ _ _ _ _ (h .4) atomsSet _ _ _ _ _ _ _ (omega arith) (spaced-next _ _ _ _ _ _ (omega arith)) e (p .ensures .0) (keeps-more _ _ _ _ _ _ (c .before .before .before .before .before .before .before .before .before .before .before .before .fits .body .fits) (c .lacks .ensures)))
 
--- src/writer.rt:147:23
 enum-known-refusal : tie.Need-enum-known-refusal Inv-loop μ-loop
 enum-known-refusal c = search needs
 
--- src/writer.rt:148:17
 same-length : tie.Need-same-length Inv-loop μ-loop
 same-length c = search needs
 
--- src/writer.rt:148:17
 returns : tie.Need-returns Inv-loop μ-loop
 returns c =
     let h = c .before .before .before .before .before .before .before .before .loop .inv in
     let p = c .before .before .before .before .before .put-atoms in
     (λ b e. writing-refused _ _ _ _ _ _ _ _ _ _ _ (h .4) atomsSet _ _ _ _ _ _ _ _ (omega arith) (spaced-next _ _ _ _ _ _ (omega arith)) (c .before .refusal .given .1) (p .ensures .0), ends-bad _ _ _ _)
 
--- src/writer.rt:152:16
 fault-requires : tie.Need-fault-requires Inv-loop μ-loop
 fault-requires c κs = search needs
 
--- src/writer.rt:125:1
 same-length-2 : tie.Need-same-length-2 Inv-loop μ-loop
 same-length-2 c = search needs
 
--- src/writer.rt:125:1
 returns-2 : tie.Need-returns-2 Inv-loop μ-loop
 returns-2 c =
     let h = c .before .before .loop .inv in

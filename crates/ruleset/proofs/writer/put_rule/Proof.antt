@@ -1,51 +1,35 @@
 -- `ruleset::writer::put_rule` meets its contract: body, count and disjuncts, and then the whole rule tested. Assumes nothing.
-use mathlib.Core.Path.{_≡_, refl, sym, ap, _∙_}
-use Prim.Native.Nat.{ℕ, _≤_, _<_, _-_, _+_}
+use mathlib.Core.Path.{refl}
 use native.Mathlib.Omega.{arith}
-use lib.ListN.{length, getD}
-use Rattle.ruleset.specs.Writes.{Took, Ends}
+use lib.ListN.{getD}
 use Rattle.ruleset.proofs.Writing.{ends-bad, ends-good}
 use Rattle.ruleset.proofs.AtomWriting.{ends-refused}
 use Rattle.ruleset.proofs.RuleWriting.{heads-refused, heads-sound, heads-unsound, body-refused, count-refused, rule-written}
 use borrow.Author.Needs.{needs}
 use Rattle.ruleset.proofs.writer.put_rule.Statement.{statement}
 use Rattle.ruleset.proofs.writer.put_rule.Tie as tie
-use Rattle.ruleset.proofs.writer.put_rule.Reads as reads
-use Rattle.ruleset.proofs.writer.put_rule.Lts as lts
-use Rattle.ruleset.proofs.writer.number.Reads as number-reads
-use Rattle.ruleset.proofs.writer.put.Reads as put-reads
-use Rattle.ruleset.proofs.writer.put_atoms.Reads as put-atoms-reads
-use Rattle.ruleset.proofs.writer.put_many_disjuncts.Reads as put-many-disjuncts-reads
 
--- src/writer.rt:161:35
 add-put-atoms : tie.Need-add-put-atoms
 add-put-atoms c = search needs
 
--- src/writer.rt:161:9
 put-atoms-requires : tie.Need-put-atoms-requires
 put-atoms-requires c κs = search needs
 
--- src/writer.rt:162:20
 enum-known-body : tie.Need-enum-known-body
 enum-known-body c = search needs
 
--- src/writer.rt:163:9
 enum-told : tie.Need-enum-told
 enum-told c = search needs
 
--- src/writer.rt:163:9
 same-length : tie.Need-same-length
 same-length c = search needs
 
--- src/writer.rt:163:9
 returns : tie.Need-returns
 returns c = (body-refused _ _ _ _ (getD (c .before .before .before .before .before .before .before .before .args .form .now) (c .before .before .before .before .before .before .before .before .args .at) 0) _ _ _ refl (c .before .before .before .before .put-atoms .ensures .0) _ _ _ (c .enum-told .given .1), ends-refused _ _ _ _ _ (c .enum-told .given .1))
 
--- src/writer.rt:165:21
 number-requires : tie.Need-number-requires
 number-requires c κs = search needs
 
--- src/writer.rt:165:9
 put-requires : tie.Need-put-requires
 put-requires c κs =
     let p = c .before .before .before .before .before .before .before .put-atoms in
@@ -54,31 +38,24 @@ put-requires c κs =
     let h = c .before .before .before .before .before .before .before .before .before .before .before .pre .1 in
     omega arith
 
--- src/writer.rt:166:20
 enum-known-first : tie.Need-enum-known-first
 enum-known-first c = search needs
 
--- src/writer.rt:167:9
 enum-told-2 : tie.Need-enum-told-2
 enum-told-2 c = search needs
 
--- src/writer.rt:167:9
 same-length-2 : tie.Need-same-length-2
 same-length-2 c = search needs
 
--- src/writer.rt:167:9
 returns-2 : tie.Need-returns-2
 returns-2 c = (count-refused _ _ _ _ _ _ _ _ (c .before .before .before .before .before .before .number .ensures) (c .before .before .before .before .before .before .before .before .before .before .before .before .put-atoms .ensures .0) _ _ (c .before .before .before .before .before .before .before .before .body .given .1) _ _ (c .before .before .before .before .put .ensures .0) _ _ _ (c .enum-told2 .given .1), ends-refused _ _ _ _ _ (c .enum-told2 .given .1))
 
--- src/writer.rt:169:49
 cast-put-many-disjuncts : tie.Need-cast-put-many-disjuncts
 cast-put-many-disjuncts c = search needs
 
--- src/writer.rt:169:65
 add-put-many-disjuncts : tie.Need-add-put-many-disjuncts
 add-put-many-disjuncts c = search needs
 
--- src/writer.rt:169:9
 put-many-disjuncts-requires : tie.Need-put-many-disjuncts-requires
 put-many-disjuncts-requires c κs =
     let p = c .before .before .before .before .before .before .before .before .before .before .before .before .before .before .put-atoms in
@@ -93,35 +70,27 @@ put-many-disjuncts-requires c κs =
     let h = c .before .before .before .before .before .before .before .before .before .before .before .before .before .before .before .before .before .before .pre .1 in
     (c .before .before .before .before .before .before .before .before .before .before .before .before .before .before .before .before .before .before .pre .0, (omega arith, omega arith, omega arith, omega arith))
 
--- src/writer.rt:170:20
 enum-known-head : tie.Need-enum-known-head
 enum-known-head c = search needs
 
--- src/writer.rt:171:9
 enum-told-3 : tie.Need-enum-told-3
 enum-told-3 c = search needs
 
--- src/writer.rt:171:9
 same-length-3 : tie.Need-same-length-3
 same-length-3 c = search needs
 
--- src/writer.rt:171:9
 returns-3 : tie.Need-returns-3
 returns-3 c = (rule-written _ _ _ _ _ _ _ _ (c .before .before .before .before .before .before .before .before .before .before .before .before .before .number .ensures) (c .before .before .before .before .before .before .before .before .before .before .before .before .before .before .before .before .before .before .before .put-atoms .ensures .0) _ _ (c .before .before .before .before .before .before .before .before .before .before .before .before .before .before .before .body .given .1) _ _ (c .before .before .before .before .before .before .before .before .before .before .before .put .ensures .0) _ _ _ _ (c .before .before .before .before .before .before .before .first .given .1) (c .before .before .before .before .before .before .before .before .before .before .before .put .ensures .1) (λ b x. heads-refused b _ _ _ _ _ _ _ (c .before .before .before .before .put-many-disjuncts .ensures .0 b x) _ _ _ (c .enum-told3 .given .1)), ends-refused _ _ _ _ _ (c .enum-told3 .given .1))
 
--- src/writer.rt:174:9
 same-length-4 : tie.Need-same-length-4
 same-length-4 c = search needs
 
--- src/writer.rt:174:9
 returns-4 : tie.Need-returns-4
 returns-4 c = (rule-written _ _ _ _ _ _ _ _ (c .before .before .before .before .before .before .before .before .before .before .before .before .before .before .before .number .ensures) (c .before .before .before .before .before .before .before .before .before .before .before .before .before .before .before .before .before .before .before .before .before .put-atoms .ensures .0) _ _ (c .before .before .before .before .before .before .before .before .before .before .before .before .before .before .before .before .before .body .given .1) _ _ (c .before .before .before .before .before .before .before .before .before .before .before .before .before .put .ensures .0) _ _ _ _ (c .before .before .before .before .before .before .before .before .before .first .given .1) (c .before .before .before .before .before .before .before .before .before .before .before .before .before .put .ensures .1) (λ b x. heads-unsound b _ _ _ _ _ _ _ (c .before .before .before .before .before .before .put-many-disjuncts .ensures .0 b x) _ _ _ (c .before .before .head .given .1) (c .if1 .taken)), ends-bad _ _ _ _)
 
--- src/writer.rt:156:1
 same-length-5 : tie.Need-same-length-5
 same-length-5 c = search needs
 
--- src/writer.rt:156:1
 returns-5 : tie.Need-returns-5
 returns-5 c =
     let m = c .before .before .before .before .before .before .before .before .before .before .before .before .before .before .before .before .before .before .before .before .before .put-atoms .ensures .1 .most _ _ (c .before .before .before .before .before .before .before .before .before .before .before .before .before .before .before .before .before .body .given .1) in

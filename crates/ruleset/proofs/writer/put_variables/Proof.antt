@@ -1,6 +1,6 @@
 -- `ruleset::writer::put_variables` meets its contract: between turns the loop is as `Writing` says. Assumes nothing.
-use mathlib.Core.Path.{_≡_, refl, sym, ap, _∙_}
-use Prim.Native.Nat.{ℕ, _≤_, _<_, _-_, _+_}
+use mathlib.Core.Path.{_≡_, refl, _∙_}
+use Prim.Native.Nat.{_≤_, _-_, _+_}
 use native.Mathlib.Omega.{arith}
 use borrow.Author.Needs.{needs}
 use lib.ListN.{length}
@@ -8,16 +8,11 @@ use Rattle.model.specs.Lists.{numbersFrom}
 use Rattle.model.specs.Format.{variable}
 use Rattle.ruleset.specs.Sets.{setOf}
 use Rattle.ruleset.specs.Step.{value}
-use Rattle.ruleset.specs.Writes.{Took}
 use Rattle.ruleset.proofs.Sets.{setOf-more}
 use Rattle.ruleset.proofs.Spelling.{numbers-next, numbers-none, numbers-whole}
 use Rattle.ruleset.proofs.Writing.{Writing, writing-begun, writing-more, writing-refused, writing-ended, ends-bad, ends-good}
 use Rattle.ruleset.proofs.writer.put_variables.Statement.{statement}
 use Rattle.ruleset.proofs.writer.put_variables.Tie as tie
-use Rattle.ruleset.proofs.writer.put_variables.Reads as reads
-use Rattle.ruleset.proofs.writer.put_variables.Lts as lts
-use Rattle.ruleset.proofs.writer.number.Reads as number-reads
-use Rattle.ruleset.proofs.writer.put.Reads as put-reads
 
 abbrev Inv-loop : tie.InvT-loop
 Inv-loop form n at i out₀ set₀ j₀ from₀ k₀ out set j from k =
@@ -27,42 +22,33 @@ Inv-loop form n at i out₀ set₀ j₀ from₀ k₀ out set j from k =
 abbrev μ-loop : tie.MeasureT-loop
 μ-loop form n at i out₀ set₀ j₀ from₀ k₀ out set j from k = n - k
 
--- src/writer.rt:53:5
 loop-holds : tie.Need-loop-holds Inv-loop μ-loop
 unfolding setOf
 loop-holds c = (omega arith, omega arith, omega arith, refl, writing-begun _ _ _ _ _ _ _ _ (numbers-whole _ _ _) refl)
 
--- src/writer.rt:54:19
 number-requires : tie.Need-number-requires Inv-loop μ-loop
 number-requires c κs = search needs
 
--- src/writer.rt:54:15
 put-requires : tie.Need-put-requires Inv-loop μ-loop
 put-requires c κs = omega arith
 
--- src/writer.rt:55:24
 enum-known-v : tie.Need-enum-known-v Inv-loop μ-loop
 enum-known-v c = search needs
 
--- src/writer.rt:56:29
 shl-set : tie.Need-shl-set Inv-loop μ-loop
 shl-set c = let t = c .before .before .before .before .before .put .ensures .1 in
     let e = c .before .v .given .1 in
     omega (arith, t .same _ _ e, t .most _ _ e)
 
--- src/writer.rt:58:17
 add-from : tie.Need-add-from Inv-loop μ-loop
 add-from c = search needs
 
--- src/writer.rt:59:17
 add-k : tie.Need-add-k Inv-loop μ-loop
 add-k c = search needs
 
--- src/writer.rt:53:5
 loop-less : tie.Need-loop-less Inv-loop μ-loop
 loop-less c = search needs
 
--- src/writer.rt:53:5
 loop-again : tie.Need-loop-again Inv-loop μ-loop
 unfolding variable
 loop-again c =
@@ -72,15 +58,12 @@ loop-again c =
     let t : c .before .v .given .0 .0 ≤ 7 = omega (arith, p .ensures .1 .same _ _ e, p .ensures .1 .most _ _ e) in
     (omega arith, omega arith, omega (arith, p .ensures .1 .next _ _ e), p .kept .1 .1 .1 .1 .1 .0 ∙ h .3, writing-more _ _ _ _ _ _ _ _ _ _ _ (h .4) value _ _ _ _ _ _ _ (omega arith) (numbers-next _ _ _ _ _ (omega arith) (c .before .before .before .before .before .before .before .number .ensures)) e (p .ensures .0) (λ v f vs m. rw f (setOf-more vs _ _ t m)))
 
--- src/writer.rt:61:23
 enum-known-refusal : tie.Need-enum-known-refusal Inv-loop μ-loop
 enum-known-refusal c = search needs
 
--- src/writer.rt:62:17
 same-length : tie.Need-same-length Inv-loop μ-loop
 same-length c = search needs
 
--- src/writer.rt:62:17
 returns : tie.Need-returns Inv-loop μ-loop
 unfolding variable
 returns c =
@@ -88,11 +71,9 @@ returns c =
     let p = c .before .before .before .before .before .put in
     (writing-refused _ _ _ _ _ _ _ _ _ _ _ (h .4) value _ _ _ _ _ _ _ _ (omega arith) (numbers-next _ _ _ _ _ (omega arith) (c .before .before .before .before .before .before .before .number .ensures)) (c .before .refusal .given .1) (p .ensures .0), ends-bad _ _ _ _)
 
--- src/writer.rt:45:1
 same-length-2 : tie.Need-same-length-2 Inv-loop μ-loop
 same-length-2 c = search needs
 
--- src/writer.rt:45:1
 returns-2 : tie.Need-returns-2 Inv-loop μ-loop
 returns-2 c =
     let h = c .before .loop .inv in

@@ -1,7 +1,7 @@
--- `ruleset::reader::fault` meets its contract. Assumes nothing.
+-- `ruleset::faults::fault` meets its contract. Assumes nothing.
 use borrow.Author.Tests.{eq-eqb, ne-eqb}
-use Rattle.ruleset.proofs.reader.fault.Statement.{statement}
-use Rattle.ruleset.proofs.reader.fault.Tie as tie
+use Rattle.ruleset.proofs.faults.fault.Statement.{statement}
+use Rattle.ruleset.proofs.faults.fault.Tie as tie
 
 returns : tie.Need-returns
 returns c = rw (ne-eqb _ 0 (c .if1 .taken))

@@ -1,8 +1,8 @@
--- `ruleset::reader::lacks` meets its contract. Assumes nothing.
+-- `ruleset::faults::lacks` meets its contract. Assumes nothing.
 use borrow.Author.Tests.{eq-eqb, ne-eqb}
 use Rattle.ruleset.specs.Heads.{lacking}
-use Rattle.ruleset.proofs.reader.lacks.Statement.{statement}
-use Rattle.ruleset.proofs.reader.lacks.Tie as tie
+use Rattle.ruleset.proofs.faults.lacks.Statement.{statement}
+use Rattle.ruleset.proofs.faults.lacks.Tie as tie
 
 returns : tie.Need-returns
 unfolding lacking
