@@ -1,0 +1,107 @@
+// What `read` leaves of a form.
+use crate::column::four;
+use crate::column::line_end;
+use crate::file::load;
+use crate::say;
+use ruleset::reader::read;
+
+// Whether every number from a place on is the mark 65535, which no book's form has.
+fn is_marked(form: &[u16], from: usize) -> bool {
+    let mut k = from;
+    while k < form.len() {
+        if form[k] != 65535 {
+            return false;
+        }
+        k += 1;
+    }
+    true
+}
+
+fn same(a: &[u16], b: &[u16]) -> bool {
+    if a.len() != b.len() {
+        return false;
+    }
+    let mut k = 0;
+    while k < a.len() {
+        if a[k] != b[k] {
+            return false;
+        }
+        k += 1;
+    }
+    true
+}
+
+// Whether a form of marks is as a book that was read leaves it: its front what a form of zeros becomes, and marks beyond.
+fn is_filled(bytes: &[u8], form: &[u16]) -> bool {
+    if form.len() < 6850 {
+        return false;
+    }
+    let mut other = [0u16; 6850];
+    read(bytes, &mut other[..]);
+    if !same(&other[..], &form[0..6850]) {
+        return false;
+    }
+    is_marked(form, 6850)
+}
+
+// Whether a form of marks is as the answer to these bytes leaves it: a refusal leaves the marks.
+pub fn is_right(bytes: &[u8], refusal: usize, form: &[u16]) -> bool {
+    if refusal == 0 {
+        return is_filled(bytes, form);
+    }
+    is_marked(form, 0)
+}
+
+// Puts the number of a line `AAAA VVVV` at its place.
+fn put(line: &[u8], form: &mut [u16]) {
+    let place = four(line, 0);
+    if place < form.len() {
+        form[place] = four(line, 5) as u16;
+    }
+}
+
+fn put_lines(text: &[u8], form: &mut [u16]) {
+    let mut at = 0;
+    while at < text.len() {
+        let end = line_end(text, at);
+        put(&text[at..end], form);
+        at = end + 1;
+    }
+}
+
+// Puts the numbers of a file at their places.
+fn put_file(path: &[u8], form: &mut [u16]) {
+    let fd = os::open_read(path);
+    if fd < 0 {
+        say::note(path, b"cannot be opened");
+        return;
+    }
+    let mut text = io::buffer();
+    let n = load(fd, &mut text);
+    put_lines(&text[..n], form);
+}
+
+// Reads a book into a form.
+fn read_file(path: &[u8], form: &mut [u16]) {
+    let fd = os::open_read(path);
+    if fd < 0 {
+        say::note(path, b"cannot be opened");
+        return;
+    }
+    let mut bytes = io::buffer();
+    let n = load(fd, &mut bytes);
+    read(&bytes[..n], form);
+}
+
+// Whether the form of a book has another number than the lines of a file say, or another than 0 elsewhere.
+pub fn differs(book: &[u8], numbers: &[u8]) -> bool {
+    let mut expected = [0u16; 6850];
+    put_file(numbers, &mut expected[..]);
+    let mut found = [65535u16; 6850];
+    read_file(book, &mut found[..]);
+    if same(&found[..], &expected[..]) {
+        return false;
+    }
+    say::note(book, b"another form");
+    true
+}
