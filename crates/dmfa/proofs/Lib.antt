@@ -15,3 +15,4 @@ pub mod Handled
 pub mod First
 pub mod Fronts
 pub mod Stays
+pub mod Unhandled

@@ -5,3 +5,4 @@ pub mod large;
 pub mod looping;
 pub mod making;
 pub mod output;
+pub mod trigger;
