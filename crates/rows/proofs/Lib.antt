@@ -1,3 +1,4 @@
 pub mod Encoding
 pub mod Triggers
 pub mod Outputs
+pub mod Tables
