@@ -36,7 +36,7 @@ fn digit(line: &[u8], i: usize) -> usize
 
 // The number that two digits from i on spell.
 pub fn two(line: &[u8], i: usize) -> usize
-    requires { ⌜ i ≤ 16 ⌝ }
+    requires { ⌜ i ≤ 30 ⌝ }
     ensures { λ r. ⌜ r ≤ 99 ⌝ }
 {
     digit(line, i) * 10 + digit(line, i + 1)
@@ -44,7 +44,7 @@ pub fn two(line: &[u8], i: usize) -> usize
 
 // The number that four digits from i on spell.
 pub fn four(line: &[u8], i: usize) -> usize
-    requires { ⌜ i ≤ 14 ⌝ }
+    requires { ⌜ i ≤ 28 ⌝ }
     ensures { λ r. ⌜ r ≤ 9999 ⌝ }
 {
     two(line, i) * 100 + two(line, i + 2)

@@ -1,11 +1,11 @@
-// What `read` leaves of a form.
+// What `read` leaves of a form that was full of the mark 65535, which no book's form has.
 use crate::column::four;
 use crate::column::line_end;
-use crate::file::load;
+use crate::file;
 use crate::say;
 use ruleset::reader::read;
 
-// Whether every number from a place on is the mark 65535, which no book's form has.
+// Whether every number from a place on is the mark.
 fn is_marked(form: &[u16], from: usize) -> bool {
     let mut k = from;
     while k < form.len() {
@@ -53,7 +53,7 @@ pub fn is_right(bytes: &[u8], refusal: usize, form: &[u16]) -> bool {
 }
 
 // Puts the number of a line `AAAA VVVV` at its place.
-fn put(line: &[u8], form: &mut [u16]) {
+pub fn put(line: &[u8], form: &mut [u16]) {
     let place = four(line, 0);
     if place < form.len() {
         form[place] = four(line, 5) as u16;
@@ -71,25 +71,23 @@ fn put_lines(text: &[u8], form: &mut [u16]) {
 
 // Puts the numbers of a file at their places.
 fn put_file(path: &[u8], form: &mut [u16]) {
-    let fd = os::open_read(path);
+    let fd = file::open(path);
     if fd < 0 {
-        say::note(path, b"cannot be opened");
         return;
     }
     let mut text = io::buffer();
-    let n = load(fd, &mut text);
+    let n = file::load(fd, &mut text);
     put_lines(&text[..n], form);
 }
 
 // Reads a book into a form.
 fn read_file(path: &[u8], form: &mut [u16]) {
-    let fd = os::open_read(path);
+    let fd = file::open(path);
     if fd < 0 {
-        say::note(path, b"cannot be opened");
         return;
     }
     let mut bytes = io::buffer();
-    let n = load(fd, &mut bytes);
+    let n = file::load(fd, &mut bytes);
     read(&bytes[..n], form);
 }
 

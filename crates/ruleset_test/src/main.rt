@@ -1,33 +1,45 @@
-// Tries `ruleset::reader::read` on books: a line for each difference from what document 01 asks, one for each group of cases, then the count.
+// Tries `ruleset`'s `read` and `write` on books: a line for each difference from what document 01 asks, one for each group of cases, then
+// the count.
 //
-// A group is a file of lines `NN PPPP FFFF BOOK`: a refusal's number, or 0 where the book is read; the refusal's place, or how many bytes
-// are read; how many numbers the lent form has; the book's file. What `misstated` says is wrong, and so is the first form, and each of them
-// must differ.
-mod case;
+// A group is a file with a case on each line, as `reading` and `writing` say. What `misstated` says is wrong, and so is the first form, and
+// each of them must differ.
+mod answer;
+mod bytes;
 mod column;
 mod file;
 mod form;
+mod reading;
 mod say;
 mod tally;
+mod writing;
 
 use column::line_end;
 use tally::Tally;
+
+// Whether a case differs, which is then said.
+fn differs(line: &[u8]) -> bool {
+    if 0 < line.len() {
+        if line[0] == b'w' {
+            return writing::differs(line);
+        }
+    }
+    reading::differs(line)
+}
 
 fn try_cases(text: &[u8]) -> Tally {
     let mut tally = Tally::new();
     let mut at = 0;
     while at < text.len() {
         let end = line_end(text, at);
-        tally = tally.with(case::differs(&text[at..end]));
+        tally = tally.with(differs(&text[at..end]));
         at = end + 1;
     }
     tally
 }
 
 fn try_group(name: &[u8]) -> Tally {
-    let fd = os::open_read(name);
+    let fd = file::open(name);
     if fd < 0 {
-        say::note(name, b"cannot be opened");
         return Tally::new().with(true);
     }
     let mut text = io::buffer();
@@ -55,6 +67,7 @@ fn main() {
         .plus(try_group(b"papers"))
         .plus(try_group(b"longest"))
         .plus(try_group(b"lengths"))
-        .plus(try_forms());
+        .plus(try_forms())
+        .plus(try_group(b"writing"));
     say::count(b"all", tally.cases, tally.differences);
 }

@@ -1,0 +1,29 @@
+// What `write` leaves of a list of bytes that was full of the mark 238, which no book has but in its length.
+
+// The byte at k, or beyond the last one the mark.
+fn byte_or_mark(bytes: &[u8], k: usize) -> u8 {
+    if k < bytes.len() {
+        return bytes[k];
+    }
+    238
+}
+
+// Whether a list of marks has these bytes in its front, and marks beyond.
+fn is_front(bytes: &[u8], list: &[u8]) -> bool {
+    let mut k = 0;
+    while k < list.len() {
+        if list[k] != byte_or_mark(bytes, k) {
+            return false;
+        }
+        k += 1;
+    }
+    true
+}
+
+// Whether a list of marks is as this answer leaves it: a refusal leaves the marks.
+pub fn is_right(bytes: &[u8], refusal: usize, list: &[u8]) -> bool {
+    if refusal == 0 {
+        return is_front(bytes, list);
+    }
+    is_front(&bytes[0..0], list)
+}
