@@ -6,3 +6,4 @@ pub mod Agree
 pub mod Template
 pub mod Entering
 pub mod Origins
+pub mod Starting

@@ -3,3 +3,4 @@ pub mod Copying
 pub mod Origins
 pub mod Origin
 pub mod Test
+pub mod Start
