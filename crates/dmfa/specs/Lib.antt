@@ -1,3 +1,4 @@
 pub mod Large
 pub mod Looping
 pub mod Making
+pub mod Stage
