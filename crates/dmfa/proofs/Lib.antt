@@ -16,3 +16,4 @@ pub mod First
 pub mod Fronts
 pub mod Stays
 pub mod Unhandled
+pub mod Promises

@@ -2,3 +2,4 @@ pub mod Large
 pub mod Looping
 pub mod Making
 pub mod Stage
+pub mod Promises
