@@ -12,3 +12,4 @@ pub mod Stages
 pub mod Regular
 pub mod Test
 pub mod Growth
+pub mod Start
