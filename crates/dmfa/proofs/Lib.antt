@@ -17,3 +17,4 @@ pub mod Fronts
 pub mod Stays
 pub mod Unhandled
 pub mod Promises
+pub mod Trying
