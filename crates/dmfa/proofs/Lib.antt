@@ -18,3 +18,4 @@ pub mod Stays
 pub mod Unhandled
 pub mod Promises
 pub mod Trying
+pub mod Tabling
