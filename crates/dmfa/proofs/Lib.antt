@@ -19,3 +19,4 @@ pub mod Unhandled
 pub mod Promises
 pub mod Trying
 pub mod Tabling
+pub mod Finished
