@@ -7,3 +7,4 @@ pub mod Template
 pub mod Entering
 pub mod Origins
 pub mod Starting
+pub mod Answer

@@ -4,3 +4,4 @@ pub mod Origins
 pub mod Origin
 pub mod Test
 pub mod Start
+pub mod Outcome
