@@ -20,5 +20,5 @@ pub mod Promises
 pub mod Trying
 pub mod Tabling
 pub mod Finished
-pub mod Trying
 pub mod Leavable
+pub mod After
