@@ -22,3 +22,5 @@ pub mod Tabling
 pub mod Finished
 pub mod Leavable
 pub mod After
+pub mod Skipping
+pub mod Coming

@@ -5,4 +5,5 @@ pub mod large;
 pub mod looping;
 pub mod making;
 pub mod output;
+pub mod plain;
 pub mod trigger;
