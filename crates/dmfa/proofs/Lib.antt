@@ -24,3 +24,4 @@ pub mod Leavable
 pub mod After
 pub mod Skipping
 pub mod Coming
+pub mod Visits

@@ -3,3 +3,4 @@ pub mod Looping
 pub mod Making
 pub mod Stage
 pub mod Promises
+pub mod Tested

@@ -6,4 +6,5 @@ pub mod looping;
 pub mod making;
 pub mod output;
 pub mod plain;
+pub mod tested;
 pub mod trigger;
