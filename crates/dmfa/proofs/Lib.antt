@@ -25,3 +25,4 @@ pub mod After
 pub mod Skipping
 pub mod Coming
 pub mod Visits
+pub mod Rules

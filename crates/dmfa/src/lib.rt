@@ -6,5 +6,6 @@ pub mod looping;
 pub mod making;
 pub mod output;
 pub mod plain;
+pub mod stage;
 pub mod tested;
 pub mod trigger;
