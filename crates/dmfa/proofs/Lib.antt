@@ -26,3 +26,4 @@ pub mod Skipping
 pub mod Coming
 pub mod Visits
 pub mod Rules
+pub mod Settling
