@@ -27,3 +27,4 @@ pub mod Coming
 pub mod Visits
 pub mod Rules
 pub mod Settling
+pub mod Checking

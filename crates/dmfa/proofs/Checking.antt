@@ -1,0 +1,110 @@
+-- What the check answers and leaves in the caller's tables is what the definition gives. Assumes nothing.
+use mathlib.Core.Path.{_≡_, refl, sym, ap, _∙_, subst}
+use mathlib.Core.List.{List, _++_}
+use Prim.Native.Nat.{ℕ, suc, _-_, _*_, _≤_}
+use native.Mathlib.Omega.{arith}
+use lib.ListN.{length, take, length-append, length-map, length-take}
+use Rattle.model.specs.Rules.{RuleSet, entries}
+use Rattle.model.specs.WellFormed.{WellFormed}
+use Rattle.model.specs.Format.{Parsed, good, bad, read}
+use Rattle.model.specs.Form.{formLength, decoded, done, refusal, Reading, reading}
+use Rattle.model.specs.Stages.{Verdict, accepted, looping, refused, stage, cyclicTerms, verdict}
+use Rattle.model.specs.Tables.{termRow, factRow, fronted, termsFront, factsFront, checked}
+use Rattle.verdict.specs.declared.Verdict as declared
+use Rattle.verdict.specs.Verdict.{meant}
+use Rattle.stage_laws.proofs.Verdict.{Reached, reached-facts-within, reached-terms-within, accepted-says, looping-says}
+use Rattle.format_laws.proofs.RoundTrip.{reading-good, reading-bad}
+use Rattle.form_laws.proofs.Reading.{read-holds}
+use Rattle.table_laws.proofs.Courses.{Fronts, checked-bad}
+use Rattle.rows.specs.Tables.{flat}
+use Rattle.terms.specs.Rows.{rows}
+use Rattle.terms.proofs.Tables.{rows-length}
+use Rattle.rules.specs.Places.{Held}
+use Rattle.stage_rows.specs.Judging.{Judged, refusedWith, judged}
+use Rattle.dmfa_laws.proofs.Judging.{shown, facts-count, terms-count, judged-shown, leftBy, checked-is-judged}
+use Rattle.dmfa.specs.Judging.{answerOf}
+use Rattle.dmfa.proofs.Fronts.{flat-rows}
+
+-- an answer shows at most 513 terms and 2,048 facts
+
+pub record Few (j : Judged) : Type 0 where
+  pub terms : length (j .rows .terms) ≤ 513
+  pub facts : length (j .rows .facts) ≤ 2048
+
+module _ (b : RuleSet) (w : WellFormed b) where
+  few-looping : (n k : ℕ) → n ≡ suc k → Reached b k → (f t : ℕ) → Few (shown b (looping n f t))
+  unfolding shown
+  few-looping n k e r f t =
+      let p : n - 1 ≡ k = omega arith in
+      let h = reached-terms-within b k r in
+      let g = reached-facts-within b w k r in
+      let ts = stage b (n - 1) .terms in
+      let us = take 1 (cyclicTerms (entries b) (stage b (n - 1))) in
+      let i = ap (λ (x : ℕ). length (stage b x .terms)) p in
+      let j = ap (λ (x : ℕ). length (stage b x .facts)) p in
+      record {
+        terms = omega (arith, length-map (ts ++ us) (termRow ts), length-append ts us, length-take 1 (cyclicTerms (entries b) (stage b (n - 1))));
+        facts = omega (arith, length-map (stage b (n - 1) .facts) (factRow ts));
+      }
+
+  few-shown : (v : Verdict) → verdict b ≡ v → Few (shown b v)
+  unfolding shown refusedWith
+  few-shown (accepted n f t) e =
+      let r = accepted-says b w e .reached in
+      record {
+        terms = omega (arith, terms-count b n, reached-terms-within b n r);
+        facts = omega (arith, facts-count b n, reached-facts-within b w n r);
+      }
+  few-shown (looping n f t) e = let l = looping-says b w e in few-looping n (l .last) (l .next) (l .reached) f t
+  few-shown (refused n p) e = record { terms = omega arith; facts = omega arith }
+
+  judged-few : Few (judged b)
+  judged-few = subst Few (sym (judged-shown b w)) (few-shown (verdict b) refl)
+
+-- the tables of an answer
+
+module _ (form : List ℕ) (h : Held form) (v : declared.Verdict) (terms : List ℕ) (n : ℕ) (facts : List ℕ) (m : ℕ) (e : answerOf v terms n facts m ≡ judged (decoded form)) where
+  pub answer-few : (n ≤ 513) × (m ≤ 2048)
+  answer-few =
+      let f = subst Few (sym e) (judged-few (decoded form) (h .sound)) in
+      (omega (arith, f .terms, rows-length 10 n terms), omega (arith, f .facts, rows-length 5 m facts))
+
+  pub answer-left : (terms₀ facts₀ terms′ facts′ : List ℕ) → terms′ ≡ fronted termsFront (take (n * 10) terms) terms₀ → facts′ ≡ fronted factsFront (take (m * 5) facts) facts₀
+      → record { verdict = meant v; terms = terms′; facts = facts′ } ≡ leftBy (judged (decoded form)) terms₀ facts₀
+  answer-left terms₀ facts₀ terms′ facts′ p q =
+      let s : terms′ ≡ fronted termsFront (flat (rows 10 n terms)) terms₀ = p ∙ ap (λ (l : List ℕ). fronted termsFront l terms₀) (sym (flat-rows 10 n terms)) in
+      let t : facts′ ≡ fronted factsFront (flat (rows 5 m facts)) facts₀ = q ∙ ap (λ (l : List ℕ). fronted factsFront l facts₀) (sym (flat-rows 5 m facts)) in
+      (λ i. record { verdict = meant v; terms = s i; facts = t i }) ∙ ap (λ (j : Judged). leftBy j terms₀ facts₀) e
+
+-- what was read
+
+module _ (bytes form terms₀ facts₀ : List ℕ) (room : formLength ≤ length form) (h : Fronts terms₀ facts₀) where
+  refusal-read : (n p : ℕ) → reading bytes form .answer ≡ refusal n p → read bytes ≡ bad n p
+  refusal-read n p e = go (read bytes) refl
+    where
+      go : (r : Parsed RuleSet) → read bytes ≡ r → read bytes ≡ bad n p
+      go (good b i) q =
+          let k = ap (λ (x : Reading). x .answer) (reading-good bytes form b i room q) in
+          let z : _≡_ {A = ℕ} 0 1 = cc in
+          absurd (omega arith)
+      go (bad m o) q =
+          let k = ap (λ (x : Reading). x .answer) (reading-bad bytes form m o room q) in
+          let s : m ≡ n = cc in
+          let t : o ≡ p = cc in
+          q ∙ (λ i. bad (s i) (t i))
+
+  -- a fault of the bytes leaves the tables as they were
+  pub checked-refused : (n p : ℕ) → reading bytes form .answer ≡ refusal n p → checked bytes terms₀ facts₀ ≡ record { verdict = refused n p; terms = terms₀; facts = facts₀ }
+  checked-refused n p e = checked-bad bytes terms₀ facts₀ n p h (refusal-read n p e)
+
+  module _ (n : ℕ) (form′ : List ℕ) (e : reading bytes form ≡ record { answer = done n; form = form′ }) where
+    pub form-held : Held form′
+    form-held =
+        let (b, r, k) = read-holds bytes form n (ap (λ (x : Reading). x .answer) e) in
+        subst Held (ap (λ (x : Reading). x .form) e) (k .held)
+
+    pub checked-left : checked bytes terms₀ facts₀ ≡ leftBy (judged (decoded form′)) terms₀ facts₀
+    checked-left =
+        let (b, r, k) = read-holds bytes form n (ap (λ (x : Reading). x .answer) e) in
+        let same : decoded form′ ≡ b = ap decoded (sym (ap (λ (x : Reading). x .form) e)) ∙ k .same in
+        checked-is-judged bytes terms₀ facts₀ b n h r ∙ ap (λ (x : RuleSet). leftBy (judged x) terms₀ facts₀) (sym same)
