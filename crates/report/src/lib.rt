@@ -1,15 +1,17 @@
 // The text of an answer, byte by byte. Every function writes into `out` from a place on and answers the place behind what it wrote. The
 // contracts cite the model's Text, and specs/Writing, specs/Legible and specs/Printing.
+use ruleset::Transfer;
 use verdict::Verdict;
 ghost use mathlib.Core.Path.{_≡_};
 ghost use mathlib.Core.List.{[], _∷_, _++_};
 ghost use Prim.Native.Nat.{suc, _≤_};
 ghost use lib.ListN.{length};
 ghost use Rattle.model.specs.Text.{decimal, line, refusedWord, termWord, factWord, loopWord, termNumbers, factNumbers, records, text, textOf};
+ghost use Rattle.ruleset.specs.Transfer.{transferOf};
 ghost use Rattle.verdict.specs.Verdict.{meant};
 ghost use Rattle.table_laws.proofs.Lines.{spaced};
 ghost use Rattle.report.specs.Writing.{Room, Writes};
-ghost use Rattle.report.specs.Printing.{Answer, textRoom};
+ghost use Rattle.report.specs.Printing.{Answer, textRoom, printing};
 ghost use Rattle.report.specs.Lines.{termLines, factLines};
 ghost use Rattle.report.specs.Legible.{LegibleTerms, LegibleFacts, Legible};
 
@@ -237,7 +239,7 @@ pub fn write_text(
 }
 
 // The text of the check's answer on these bytes. The arities stand in the form, whose places are 0 where the bytes are refused.
-pub fn write_answer(
+fn write_answer(
     bytes: &[u8],
     verdict: Verdict,
     terms: &[u16],
@@ -250,4 +252,22 @@ pub fn write_answer(
     let mut form = [0u16; 6850];
     ruleset::reader::read(bytes, &mut form);
     write_text(verdict, &form[6786..6850], terms, facts, &mut *out)
+}
+
+// Runs the check, and leaves the text of its answer in the front of `out`: answers how many bytes, or refusal 1 for a list too short.
+pub fn print(bytes: &[u8], terms: &mut [u16], facts: &mut [u16], out: &mut [u8]) -> Transfer
+    ensures { λ r. ⌜ printing (now (bytes .entry)) (now (terms .entry)) (now (facts .entry)) (now (out .entry)) ≡ record { answer = transferOf r; terms = now (terms .exit); facts = now (facts .exit); out = now (out .exit) } ⌝ }
+{
+    if terms.len() < 5130 {
+        return Transfer::Refusal(1, 0);
+    }
+    if facts.len() < 10240 {
+        return Transfer::Refusal(1, 0);
+    }
+    if out.len() < 72767 {
+        return Transfer::Refusal(1, 0);
+    }
+    let verdict = dmfa::check(bytes, &mut *terms, &mut *facts);
+    let length = write_answer(bytes, verdict, &*terms, &*facts, &mut *out);
+    Transfer::Done(length)
 }

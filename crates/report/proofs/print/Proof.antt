@@ -1,0 +1,56 @@
+-- `report::print` meets its contract: refusal 1 for a list too short, else the check's answer and its text. Assumes nothing.
+use native.Mathlib.Omega.{arith}
+use Rattle.report.proofs.Printing.{terms-short, facts-short, out-short, print-done}
+use borrow.Author.Needs.{needs}
+use Rattle.report.proofs.print.Statement.{statement}
+use Rattle.report.proofs.print.Tie as tie
+
+returns : tie.Need-returns
+returns c =
+    let s = c .before .before .before .before .before in
+    terms-short (s .args .bytes .now) (s .args .terms .now) (s .args .facts .now) (s .args .out .now) (c .if1 .taken)
+
+returns-2 : tie.Need-returns-2
+returns-2 c =
+    let s = c .before .before .before .before .before .before in
+    facts-short (s .args .bytes .now) (s .args .terms .now) (s .args .facts .now) (s .args .out .now) (c .before .if1 .left) (c .if2 .taken)
+
+returns-3 : tie.Need-returns-3
+returns-3 c =
+    let s = c .before .before .before .before .before .before .before in
+    out-short (s .args .bytes .now) (s .args .terms .now) (s .args .facts .now) (s .args .out .now) (c .before .before .if1 .left) (c .before .if2 .left) (c .if3 .taken)
+
+check-requires : tie.Need-check-requires
+check-requires c κs = search needs
+
+write-answer-requires : tie.Need-write-answer-requires
+write-answer-requires c κs = search needs
+
+same-length : tie.Need-same-length
+same-length c = search needs
+
+same-length-2 : tie.Need-same-length-2
+same-length-2 c = search needs
+
+same-length-3 : tie.Need-same-length-3
+same-length-3 c = search needs
+
+returns-4 : tie.Need-returns-4
+returns-4 c =
+    let k = c .before .before .before .before .before .before .before .before .before .before in
+    let s = k .before .before .before .before .before .before .before .before .before .before in
+    print-done (s .args .bytes .now) (s .args .terms .now) (s .args .facts .now) (s .args .out .now) (omega arith) (omega arith) (omega arith) _ (k .check .ensures) (c .before .before .write-answer .ensures)
+
+pub print-spec : {M : Type 1} → statement M
+print-spec =
+    tie.close
+    (tie.spec
+    returns
+    returns-2
+    returns-3
+    check-requires
+    write-answer-requires
+    same-length
+    same-length-2
+    same-length-3
+    returns-4)
