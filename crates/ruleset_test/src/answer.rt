@@ -1,35 +1,11 @@
-// What `read` and `write` answer, and what a case expects, from its third column on: `NN PPPP`.
-use crate::column::four;
-use crate::column::two;
-use crate::say;
-use ruleset::Transfer;
+// What a case expects, from its third column on: `NN PPPP`.
+use trial::answer::Answer;
+use trial::column::four;
+use trial::column::two;
 
-// 0 and how many bytes were read or written, or a refusal and its place.
-pub struct Answer {
-    pub refusal: usize,
-    pub place: usize,
-}
-
-pub fn shown(t: Transfer) -> Answer {
-    match t {
-        Transfer::Done(n) => Answer {
-            refusal: 0,
-            place: n,
-        },
-        Transfer::Refusal(refusal, place) => Answer {
-            refusal: refusal as usize,
-            place,
-        },
+pub fn expected(line: &[u8]) -> Answer {
+    Answer {
+        refusal: two(line, 2),
+        place: four(line, 5),
     }
-}
-
-// Whether a case expects another answer, which is then said.
-pub fn is_other(line: &[u8], found: Answer) -> bool {
-    if found.refusal == two(line, 2) {
-        if found.place == four(line, 5) {
-            return false;
-        }
-    }
-    say::answer(line, found.refusal, found.place);
-    true
 }

@@ -1,21 +1,10 @@
 // What `read` leaves of a form that was full of the mark 65535, which no book's form has.
-use crate::column::four;
-use crate::column::line_end;
-use crate::file;
-use crate::say;
 use ruleset::reader::read;
-
-// Whether every number from a place on is the mark.
-fn is_marked(form: &[u16], from: usize) -> bool {
-    let mut k = from;
-    while k < form.len() {
-        if form[k] != 65535 {
-            return false;
-        }
-        k += 1;
-    }
-    true
-}
+use trial::column::four;
+use trial::column::line_end;
+use trial::file;
+use trial::numbers::is_marked;
+use trial::say;
 
 fn same(a: &[u16], b: &[u16]) -> bool {
     if a.len() != b.len() {
@@ -41,7 +30,7 @@ fn is_filled(bytes: &[u8], form: &[u16]) -> bool {
     if !same(&other[..], &form[0..6850]) {
         return false;
     }
-    is_marked(form, 6850)
+    is_marked(&form[6850..])
 }
 
 // Whether a form of marks is as the answer to these bytes leaves it: a refusal leaves the marks.
@@ -49,7 +38,7 @@ pub fn is_right(bytes: &[u8], refusal: usize, form: &[u16]) -> bool {
     if refusal == 0 {
         return is_filled(bytes, form);
     }
-    is_marked(form, 0)
+    is_marked(form)
 }
 
 // Puts the number of a line `AAAA VVVV` at its place.

@@ -4,17 +4,14 @@
 // A group is a file with a case on each line, as `reading` and `writing` say. What `misstated` says is wrong, and so is the first form, and
 // each of them must differ.
 mod answer;
-mod bytes;
-mod column;
-mod file;
 mod form;
 mod reading;
-mod say;
-mod tally;
 mod writing;
 
-use column::line_end;
-use tally::Tally;
+use trial::column::line_end;
+use trial::file;
+use trial::say;
+use trial::tally::Tally;
 
 // Whether a case differs, which is then said.
 fn differs(line: &[u8]) -> bool {

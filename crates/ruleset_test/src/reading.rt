@@ -1,14 +1,15 @@
 // A case `r NN PPPP FFFF BOOK` of `read`: a refusal's number, or 0 where the book is read; the refusal's place, or how many bytes are read;
 // how many numbers the lent form has; the book's file. A book that is read is written back.
-use crate::answer::is_other;
-use crate::answer::shown;
-use crate::bytes;
-use crate::column::four;
-use crate::file;
+use crate::answer::expected;
 use crate::form;
-use crate::say;
 use ruleset::reader::read;
 use ruleset::writer::write;
+use trial::answer::is_other;
+use trial::answer::shown;
+use trial::bytes;
+use trial::column::four;
+use trial::file;
+use trial::say;
 
 // Whether a form is written as these bytes, and nothing beyond them.
 fn is_written_back(form: &[u16], book: &[u8]) -> bool {
@@ -28,7 +29,7 @@ fn is_written_back(form: &[u16], book: &[u8]) -> bool {
 fn compared(line: &[u8], book: &[u8], form: &mut [u16]) -> bool {
     let transfer = read(book, form);
     let found = shown(transfer);
-    if is_other(line, found) {
+    if is_other(line, expected(line), found) {
         return true;
     }
     if !form::is_right(book, found.refusal, form) {

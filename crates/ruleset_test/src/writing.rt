@@ -1,21 +1,22 @@
 // A case `w NN PPPP BBBB FFFF AAAA VVVV BOOK` of `write`: a refusal's number, or 0 where the form is written; the refusal's place, or how
 // many bytes are written; how many bytes the lent list has, and how many numbers the form; the form is a book's with the number VVVV at the
 // place AAAA. A form that is written is one whose bytes are the book's still.
-use crate::answer::is_other;
-use crate::answer::shown;
-use crate::bytes;
-use crate::column::four;
-use crate::file;
+use crate::answer::expected;
 use crate::form::put;
-use crate::say;
 use ruleset::reader::read;
 use ruleset::writer::write;
+use trial::answer::is_other;
+use trial::answer::shown;
+use trial::bytes;
+use trial::column::four;
+use trial::file;
+use trial::say;
 
 // Whether the answer or the list of marks differs.
 fn compared(line: &[u8], form: &[u16], book: &[u8], list: &mut [u8]) -> bool {
     let transfer = write(form, list);
     let found = shown(transfer);
-    if is_other(line, found) {
+    if is_other(line, expected(line), found) {
         return true;
     }
     if bytes::is_right(book, found.refusal, list) {

@@ -1,15 +1,15 @@
--- `ruleset_test::form::is_marked` is safe and ends. Assumes nothing.
+-- `trial::numbers::is_full` is safe and ends. Assumes nothing.
 use Prim.Native.Nat.{_-_}
 use borrow.Author.Needs.{needs}
 use lib.ListN.{length}
-use Rattle.ruleset_test.proofs.form.is_marked.Statement.{statement}
-use Rattle.ruleset_test.proofs.form.is_marked.Tie as tie
+use Rattle.trial.proofs.numbers.is_full.Statement.{statement}
+use Rattle.trial.proofs.numbers.is_full.Tie as tie
 
 abbrev Inv-loop : tie.InvT-loop
-Inv-loop form from k₀ k = Unit {0}
+Inv-loop list number k₀ k = Unit {0}
 
 abbrev μ-loop : tie.MeasureT-loop
-μ-loop form from k₀ k = length form - k
+μ-loop list number k₀ k = length list - k
 
 loop-holds : tie.Need-loop-holds Inv-loop μ-loop
 loop-holds c = tt
@@ -35,8 +35,8 @@ loop-again c = tt
 returns-2 : tie.Need-returns-2 Inv-loop μ-loop
 returns-2 c = search needs
 
-pub is-marked-spec : {M : Type 1} → statement M
-is-marked-spec =
+pub is-full-spec : {M : Type 1} → statement M
+is-full-spec =
     tie.close
     (tie.spec
     Inv-loop

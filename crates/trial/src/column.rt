@@ -2,19 +2,27 @@
 ghost use Prim.Native.Nat.{_≤_};
 ghost use lib.ListN.{length};
 
-// Where the line that i stands in ends: its line end, or the text's end.
-pub fn line_end(text: &[u8], i: usize) -> usize
+// Where a byte stands next, from i on; the text's end where it does not.
+pub fn find(text: &[u8], i: usize, byte: u8) -> usize
     requires { ⌜ i ≤ length (now text) ⌝ }
     ensures { λ r. ⌜ (i ≤ r) × (r ≤ length (now (text .entry))) ⌝ }
 {
     let mut k = i;
     while k < text.len() {
-        if text[k] == b'\n' {
+        if text[k] == byte {
             return k;
         }
         k += 1;
     }
     k
+}
+
+// Where the line that i stands in ends: its line end, or the text's end.
+pub fn line_end(text: &[u8], i: usize) -> usize
+    requires { ⌜ i ≤ length (now text) ⌝ }
+    ensures { λ r. ⌜ (i ≤ r) × (r ≤ length (now (text .entry))) ⌝ }
+{
+    find(text, i, b'\n')
 }
 
 // The digit at i; 0 where there is none.

@@ -1,4 +1,4 @@
-// What `write` leaves of a list of bytes that was full of the mark 238, which no book has but in its length.
+// Lists of bytes that were full of the mark 238, which no text has, and no book but in its length.
 
 // The byte at k, or beyond the last one the mark.
 fn byte_or_mark(bytes: &[u8], k: usize) -> u8 {

@@ -1,9 +1,9 @@
--- `ruleset_test::bytes::is_front` is safe and ends. Assumes nothing.
+-- `trial::bytes::is_front` is safe and ends. Assumes nothing.
 use Prim.Native.Nat.{_-_}
 use borrow.Author.Needs.{needs}
 use lib.ListN.{length}
-use Rattle.ruleset_test.proofs.bytes.is_front.Statement.{statement}
-use Rattle.ruleset_test.proofs.bytes.is_front.Tie as tie
+use Rattle.trial.proofs.bytes.is_front.Statement.{statement}
+use Rattle.trial.proofs.bytes.is_front.Tie as tie
 
 abbrev Inv-loop : tie.InvT-loop
 Inv-loop bytes list k₀ k = Unit {0}

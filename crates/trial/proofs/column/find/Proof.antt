@@ -1,15 +1,15 @@
--- `ruleset_test::column::line_end` is safe and ends: the loop keeps k between i and the length. Assumes nothing.
+-- `trial::column::find` is safe and ends: the loop keeps k between i and the length. Assumes nothing.
 use Prim.Native.Nat.{_≤_, _-_}
 use borrow.Author.Needs.{needs}
 use lib.ListN.{length}
-use Rattle.ruleset_test.proofs.column.line_end.Statement.{statement}
-use Rattle.ruleset_test.proofs.column.line_end.Tie as tie
+use Rattle.trial.proofs.column.find.Statement.{statement}
+use Rattle.trial.proofs.column.find.Tie as tie
 
 abbrev Inv-loop : tie.InvT-loop
-Inv-loop text i k₀ k = (i ≤ k) × (k ≤ length text)
+Inv-loop text i byte k₀ k = (i ≤ k) × (k ≤ length text)
 
 abbrev μ-loop : tie.MeasureT-loop
-μ-loop text i k₀ k = length text - k
+μ-loop text i byte k₀ k = length text - k
 
 loop-holds : tie.Need-loop-holds Inv-loop μ-loop
 loop-holds c = search needs
@@ -32,8 +32,8 @@ loop-again c = search needs
 returns-2 : tie.Need-returns-2 Inv-loop μ-loop
 returns-2 c = search needs
 
-pub line-end-spec : {M : Type 1} → statement M
-line-end-spec =
+pub find-spec : {M : Type 1} → statement M
+find-spec =
     tie.close
     (tie.spec
     Inv-loop
