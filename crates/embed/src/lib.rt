@@ -1,0 +1,83 @@
+// The functions of the static library (bindings/c/rulfjen.h): numbers and lists cross, and nothing else. The contracts equate all that a
+// call returns and leaves behind with the definitions, by the numbers of specs/Numbers.
+use ruleset::Transfer;
+use verdict::Verdict;
+ghost use mathlib.Core.Path.{_≡_};
+ghost use lib.ListN.{replicate};
+ghost use Rattle.model.specs.Form.{reading, writing};
+ghost use Rattle.model.specs.Tables.{checked, termsFront, factsFront};
+ghost use Rattle.ruleset.specs.Transfer.{transferOf};
+ghost use Rattle.report.specs.Printing.{printing};
+ghost use Rattle.embed.specs.Numbers.{ofChecked, ofReading, ofWriting, ofPrinting, transferNumber, transferValue};
+
+// The number that is returned for an answer, and the one that is left in `value`.
+fn transfer(answer: Transfer, value: &mut usize) -> usize
+    ensures { λ r. ⌜ (r ≡ transferNumber (transferOf answer)) × (now (value .exit) ≡ transferValue (transferOf answer)) ⌝ }
+{
+    match answer {
+        Transfer::Done(count) => {
+            *value = count;
+            0
+        }
+        Transfer::Refusal(number, place) => {
+            *value = place;
+            number as usize
+        }
+    }
+}
+
+// Checks a rule set, and leaves the last stage in the caller's tables.
+#[no_mangle]
+pub extern "C" fn rulfjen_check(
+    book: &[u8],
+    terms: &mut [u16],
+    facts: &mut [u16],
+    answer: &mut [usize; 3],
+) -> usize
+    ensures { λ r. ⌜ ofChecked (checked (now (book .entry)) (now (terms .entry)) (now (facts .entry))) ≡ record { number = r; answer = now (answer .exit); terms = now (terms .exit); facts = now (facts .exit) } ⌝ }
+{
+    let verdict = dmfa::check(book, &mut *terms, &mut *facts);
+    match verdict {
+        Verdict::Accepted(stage, f, t) => {
+            *answer = [stage, f, t];
+            0
+        }
+        Verdict::Cyclic(stage, f, t) => {
+            *answer = [stage, f, t];
+            1
+        }
+        Verdict::Refused(number, place) => {
+            *answer = [number, place, 0];
+            2
+        }
+    }
+}
+
+// Reads a rule set into a form.
+#[no_mangle]
+pub extern "C" fn rulfjen_read(book: &[u8], form: &mut [u16], value: &mut usize) -> usize
+    ensures { λ r. ⌜ ofReading (reading (now (book .entry)) (now (form .entry))) ≡ record { number = r; value = now (value .exit); list = now (form .exit) } ⌝ }
+{
+    let answer = ruleset::reader::read(book, &mut *form);
+    transfer(answer, &mut *value)
+}
+
+// Writes the bytes of a form's rule set.
+#[no_mangle]
+pub extern "C" fn rulfjen_write(form: &[u16], book: &mut [u8], value: &mut usize) -> usize
+    ensures { λ r. ⌜ ofWriting (writing (now (form .entry)) (now (book .entry))) ≡ record { number = r; value = now (value .exit); list = now (book .exit) } ⌝ }
+{
+    let answer = ruleset::writer::write(form, &mut *book);
+    transfer(answer, &mut *value)
+}
+
+// Writes the text of the check's answer. The check's tables are local.
+#[no_mangle]
+pub extern "C" fn rulfjen_print(book: &[u8], text: &mut [u8], value: &mut usize) -> usize
+    ensures { λ r. ⌜ ofPrinting (printing (now (book .entry)) (replicate termsFront 0) (replicate factsFront 0) (now (text .entry))) ≡ record { number = r; value = now (value .exit); list = now (text .exit) } ⌝ }
+{
+    let mut terms = [0u16; 5130];
+    let mut facts = [0u16; 10240];
+    let answer = report::print(book, &mut terms, &mut facts, &mut *text);
+    transfer(answer, &mut *value)
+}
