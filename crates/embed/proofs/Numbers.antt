@@ -6,7 +6,7 @@ use Rattle.model.specs.Form.{Transfer}
 use Rattle.model.specs.Tables.{Checked}
 use Rattle.verdict.specs.declared.Verdict.{Verdict}
 use Rattle.verdict.specs.Verdict.{meant}
-use Rattle.embed.specs.Numbers.{CheckLeft, TransferLeft, ofChecked, transferred, transferNumber, transferValue}
+use Rattle.embed.specs.Numbers.{ofChecked, transferred, transferNumber, transferValue}
 
 -- the verdict is of a known case
 pub check-left : {x : Checked} {v w : Verdict} {terms facts : List ℕ} → x ≡ record { verdict = meant v; terms = terms; facts = facts } → v ≡ w
