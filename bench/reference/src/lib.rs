@@ -1,0 +1,28 @@
+//! Disjunctive model-faithful acyclicity of rule sets, a second time.
+//!
+//! A TEST INSTRUMENT: nothing here is proved. It is written from document 01 and C-11 alone, by value and with hash
+//! tables, to be compared with the proved library and to be the yardstick for its speed.
+//!
+//! - `book`: rule sets, their bytes, refusals 2 to 10
+//! - `form`: the form that the library's `read` and `write` lend
+//! - `rules`: what a rule's variables say of it; Skolem functions; join plans
+//! - `facts`, `terms`: tables with hash indices
+//! - `matching`: triggers
+//! - `blocking`: the blocking test
+//! - `stages`: the stages and the verdict
+//! - `print`: the text of an answer
+
+pub mod blocking;
+pub mod book;
+pub mod facts;
+pub mod form;
+pub mod hash;
+pub mod matching;
+pub mod print;
+pub mod rules;
+pub mod stages;
+pub mod terms;
+
+pub use book::{read, Atom, Book, Refusal, Rule};
+pub use print::{print, text};
+pub use stages::{check, check_into, Checked, Verdict};

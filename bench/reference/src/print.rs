@@ -1,0 +1,44 @@
+//! The text of an answer.
+
+use crate::stages::{check, Checked, Verdict};
+use std::fmt::Write;
+
+/// What the program hands over of its input, at most.
+pub const HANDED: usize = 6_856;
+
+fn line(text: &mut String, word: &str, numbers: impl IntoIterator<Item = usize>) {
+    text.push_str(word);
+    for number in numbers {
+        write!(text, " {number}").unwrap();
+    }
+    text.push('\n');
+}
+
+pub fn text(checked: &Checked) -> String {
+    let mut text = String::new();
+    match checked.verdict {
+        Verdict::Refused { number, place } => line(&mut text, "refused", [number as usize, place]),
+        Verdict::Accepted { stage, facts, terms } => line(&mut text, "accepted", [stage, facts, terms]),
+        Verdict::Cyclic { stage, facts, terms } => line(&mut text, "cyclic", [stage, facts, terms]),
+    }
+    let widen = |n: &u16| *n as usize;
+    for (number, term) in checked.terms.iter().enumerate() {
+        let arguments = term.arguments().iter().map(widen);
+        line(&mut text, "term", [number, term.mark as usize].into_iter().chain(arguments));
+    }
+    for fact in &checked.facts {
+        let arity = checked.arities[fact.predicate as usize] as usize;
+        let arguments = fact.terms[..arity].iter().map(widen);
+        line(&mut text, "fact", [fact.predicate as usize].into_iter().chain(arguments));
+    }
+    if let Some(term) = &checked.shown {
+        let arguments = term.arguments().iter().map(widen);
+        line(&mut text, "loop", [term.mark as usize].into_iter().chain(arguments));
+    }
+    text
+}
+
+/// What the program prints for these bytes.
+pub fn print(bytes: &[u8]) -> String {
+    text(&check(&bytes[..bytes.len().min(HANDED)]))
+}
