@@ -1,10 +1,13 @@
 //! The text of an answer.
 
+use crate::book::{refuse, Refusal};
 use crate::stages::{check, Checked, Verdict};
 use std::fmt::Write;
 
 /// What the program hands over of its input, at most.
 pub const HANDED: usize = 6_856;
+/// The longest text: room for it is asked for whatever the answer.
+pub const LONGEST: usize = 72_767;
 
 fn line(text: &mut String, word: &str, numbers: impl IntoIterator<Item = usize>) {
     text.push_str(word);
@@ -41,4 +44,15 @@ pub fn text(checked: &Checked) -> String {
 /// What the program prints for these bytes.
 pub fn print(bytes: &[u8]) -> String {
     text(&check(&bytes[..bytes.len().min(HANDED)]))
+}
+
+/// Leaves the text of the check's answer in the front of `out`: its length, or refusal 1 for a list without room for
+/// the longest text.
+pub fn print_into(bytes: &[u8], out: &mut [u8]) -> Result<usize, Refusal> {
+    if out.len() < LONGEST {
+        return refuse(1, 0);
+    }
+    let text = text(&check(bytes));
+    out[..text.len()].copy_from_slice(text.as_bytes());
+    Ok(text.len())
 }
