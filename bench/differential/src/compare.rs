@@ -1,0 +1,132 @@
+//! One rule set through the reference and through the library.
+
+use crate::random::Random;
+use reference::{form, stages, Verdict};
+use rulfjen::lists;
+
+/// A list's length: what is asked for, or some more, or one less now and then.
+fn length(random: &mut Random, front: usize) -> usize {
+    match random.within(0, 39) {
+        0 => front - 1,
+        1 => random.within(0, front - 1),
+        2..=20 => front,
+        _ => front + random.within(1, 40),
+    }
+}
+
+/// A list that is not clear, so that what is left untouched shows.
+fn dirt(random: &mut Random, length: usize) -> Vec<u16> {
+    let mut x = random.next() | 1;
+    (0..length)
+        .map(|_| {
+            x = x.wrapping_mul(6_364_136_223_846_793_005).wrapping_add(1);
+            (x >> 48) as u16
+        })
+        .collect()
+}
+
+fn bytes(numbers: &[u16]) -> Vec<u8> {
+    numbers.iter().map(|&n| n as u8).collect()
+}
+
+pub fn same_verdict(of_library: rulfjen::Verdict) -> Verdict {
+    match of_library {
+        rulfjen::Verdict::Accepted { stage, facts, terms } => Verdict::Accepted { stage, facts, terms },
+        rulfjen::Verdict::Cyclic { stage, facts, terms } => Verdict::Cyclic { stage, facts, terms },
+        rulfjen::Verdict::Refused(refusal) => Verdict::Refused { number: refusal.number, place: refusal.place },
+    }
+}
+
+fn same_transfer(of_library: Result<usize, rulfjen::Refusal>) -> Result<usize, reference::Refusal> {
+    of_library.map_err(|refusal| reference::Refusal { number: refusal.number, place: refusal.place })
+}
+
+fn expect<T: PartialEq + std::fmt::Debug>(what: &str, reference: &T, library: &T) -> Result<(), String> {
+    if reference == library {
+        return Ok(());
+    }
+    let mut shown = format!("{what}: reference {reference:?}\n{what}: library   {library:?}");
+    if shown.len() > 4_000 {
+        shown = format!("{what} differs");
+    }
+    Err(shown)
+}
+
+fn expect_list<T: PartialEq + std::fmt::Debug>(what: &str, reference: &[T], library: &[T]) -> Result<(), String> {
+    match (0..reference.len()).find(|&k| reference[k] != library[k]) {
+        None => Ok(()),
+        Some(k) => Err(format!("{what} {k}: reference {:?}, library {:?}", reference[k], library[k])),
+    }
+}
+
+/// Compares answers, tables and text; answers what the reference says on lists of the right length, and on these.
+pub fn compare(book: &[u8], random: &mut Random) -> Result<(stages::Checked, Verdict), String> {
+    let checked = reference::check(book);
+
+    let terms_length = length(random, stages::TERMS_FRONT);
+    let facts_length = length(random, stages::FACTS_FRONT);
+    let (mut terms, mut facts) = (dirt(random, terms_length), dirt(random, facts_length));
+    let (mut library_terms, mut library_facts) = (terms.clone(), facts.clone());
+    let verdict = stages::check_into(book, &mut terms, &mut facts);
+    let library_verdict = same_verdict(lists::check(book, &mut library_terms, &mut library_facts));
+    expect("verdict", &verdict, &library_verdict)?;
+    expect_list("number of the terms", &terms, &library_terms)?;
+    expect_list("number of the facts", &facts, &library_facts)?;
+
+    let text_length = length(random, reference::print::LONGEST);
+    let mut text = bytes(&dirt(random, text_length));
+    let mut library_text = text.clone();
+    let printed = reference::print::print_into(book, &mut text);
+    let library_printed = same_transfer(lists::print(book, &mut library_text));
+    expect("length of the text", &printed, &library_printed)?;
+    expect_list("byte of the text", &text, &library_text)?;
+
+    compare_forms(book, random)?;
+    Ok((checked, verdict))
+}
+
+/// Compares reading, and writing of forms that are whole, changed or short.
+fn compare_forms(book: &[u8], random: &mut Random) -> Result<(), String> {
+    let form_length = length(random, form::LENGTH);
+    let mut form = dirt(random, form_length);
+    let mut library_form = form.clone();
+    let read = form::read_form(book, &mut form);
+    let library_read = same_transfer(lists::read(book, &mut library_form));
+    expect("read", &read, &library_read)?;
+    expect_list("number of the form", &form, &library_form)?;
+    if read.is_err() && !random.once_in(8) {
+        return Ok(());
+    }
+    compare_written(&form, random)?;
+    for _ in 0..random.within(1, 3) {
+        let at = match random.within(0, 3) {
+            0 => random.within(0, 1),
+            1 => random.within(0, 12),
+            2 => 2 + random.within(0, 5) * 106 + random.within(0, 105),
+            _ => random.within(6_786, 6_849),
+        };
+        if let Some(number) = form.get_mut(at) {
+            *number = random.one_of(&[0, 1, 2, 3, 4, 5, 7, 8, 63, 64, 65, 255, 256, 257, 65_535]);
+        }
+    }
+    if random.once_in(10) {
+        form.truncate(random.within(0, form.len()));
+    }
+    compare_written(&form, random)
+}
+
+fn compare_written(form: &[u16], random: &mut Random) -> Result<(), String> {
+    let room = form::write_form(form, &mut [0; 7_000]).unwrap_or(100);
+    let list_length = match random.within(0, 9) {
+        0 => room - 1,
+        1 => random.within(0, room - 1),
+        2..=5 => room,
+        _ => room + random.within(1, 40),
+    };
+    let mut out = bytes(&dirt(random, list_length));
+    let mut library_out = out.clone();
+    let written = form::write_form(form, &mut out);
+    let library_written = same_transfer(lists::write(form, &mut library_out));
+    expect("written", &written, &library_written)?;
+    expect_list("byte written", &out, &library_out)
+}

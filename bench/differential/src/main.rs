@@ -1,0 +1,136 @@
+//! Compares answers, tables and text of the static library with those of the reference. A test instrument: unproved.
+//!
+//!     differential vectors FOLDER          the library on NAME.book must print NAME.txt
+//!     differential [SEED [COUNT]]          generated rule sets from a seed, 20,000 by default
+//!     differential SEED only INDEX         one of them, written to standard output
+
+mod compare;
+mod draft;
+mod generate;
+mod random;
+
+use generate::Class;
+use random::Random;
+use reference::Verdict;
+use std::collections::BTreeMap;
+use std::io::Write;
+use std::time::{Duration, Instant};
+
+fn vectors(folder: &str) -> std::io::Result<bool> {
+    let mut names: Vec<_> =
+        std::fs::read_dir(folder)?.map(|entry| entry.map(|e| e.path())).collect::<Result<_, _>>()?;
+    names.retain(|name| name.extension().is_some_and(|extension| extension == "book"));
+    names.sort();
+    let mut failed = 0;
+    let mut text = Box::new([0; rulfjen::TEXT]);
+    for name in &names {
+        let mut bytes = std::fs::read(name)?;
+        bytes.truncate(reference::print::HANDED);
+        if rulfjen::print(&bytes, &mut text) != std::fs::read_to_string(name.with_extension("txt"))? {
+            println!("differs: {}", name.display());
+            failed += 1;
+        }
+    }
+    println!("vectors, library: {} passed, {failed} failed", names.len() - failed);
+    Ok(failed == 0 && !names.is_empty())
+}
+
+fn row_of(verdict: Verdict) -> String {
+    match verdict {
+        Verdict::Accepted { .. } => "accepted".to_string(),
+        Verdict::Cyclic { .. } => "cyclic".to_string(),
+        Verdict::Refused { number, .. } => format!("refused {number:>2}"),
+    }
+}
+
+#[derive(Default)]
+struct Tally {
+    books: usize,
+    rows: BTreeMap<String, usize>,
+    /// Comparisons with a list too short.
+    short: usize,
+    tested: usize,
+    blocked: usize,
+    with_blocked: usize,
+    time: Duration,
+}
+
+fn generated(seed: u64, count: u64) -> bool {
+    println!("seed {seed}, {count} rule sets");
+    let mut tallies: BTreeMap<Class, Tally> = BTreeMap::new();
+    let mut differ = 0;
+    let mut slowest = (Duration::ZERO, 0);
+    for index in 0..count {
+        let mut random = Random::new(seed, index);
+        let (class, book) = generate::generate(&mut random);
+        let start = Instant::now();
+        match compare::compare(&book, &mut random) {
+            Ok((checked, verdict)) => {
+                let tally = tallies.entry(class).or_default();
+                tally.books += 1;
+                *tally.rows.entry(row_of(checked.verdict)).or_default() += 1;
+                tally.short += matches!(verdict, Verdict::Refused { number: 1, .. }) as usize;
+                tally.tested += checked.seen.tested;
+                tally.blocked += checked.seen.blocked;
+                tally.with_blocked += (checked.seen.blocked > 0) as usize;
+                tally.time += start.elapsed();
+            }
+            Err(difference) => {
+                println!("rule set {index}, {class:?}: differential {seed} only {index}\n{difference}");
+                differ += 1;
+                if differ == 20 {
+                    return false;
+                }
+            }
+        }
+        slowest = slowest.max((start.elapsed(), index));
+    }
+    print_tallies(&tallies);
+    println!("the slowest: rule set {}, {:.1?}", slowest.1, slowest.0);
+    println!("differential: {} agree, {differ} differ", count - differ);
+    differ == 0
+}
+
+fn print_tallies(tallies: &BTreeMap<Class, Tally>) {
+    let mut rows: Vec<String> = tallies.values().flat_map(|tally| tally.rows.keys().cloned()).collect();
+    rows.sort();
+    rows.dedup();
+    let line = |name: &str, number: &dyn Fn(&Tally) -> String, sum: String| {
+        print!("{name:<14}");
+        tallies.values().for_each(|tally| print!("{:>10}", number(tally)));
+        println!("{sum:>10}");
+    };
+    let sum = |number: &dyn Fn(&Tally) -> usize| tallies.values().map(number).sum::<usize>().to_string();
+    print!("{:<14}", "");
+    tallies.keys().for_each(|class| print!("{:>10}", format!("{class:?}")));
+    println!("{:>10}", "all");
+    for row in &rows {
+        let number = |tally: &Tally| tally.rows.get(row).copied().unwrap_or(0);
+        line(row, &|tally| number(tally).to_string(), sum(&number));
+    }
+    line("short lists", &|tally| tally.short.to_string(), sum(&|tally| tally.short));
+    line("rule sets", &|tally| tally.books.to_string(), sum(&|tally| tally.books));
+    line("with blocked", &|tally| tally.with_blocked.to_string(), sum(&|tally| tally.with_blocked));
+    line("tests", &|tally| tally.tested.to_string(), sum(&|tally| tally.tested));
+    line("blocked", &|tally| tally.blocked.to_string(), sum(&|tally| tally.blocked));
+    line("ms", &|tally| tally.time.as_millis().to_string(), sum(&|tally| tally.time.as_millis() as usize));
+}
+
+fn main() -> std::io::Result<()> {
+    let words: Vec<String> = std::env::args().skip(1).collect();
+    let number = |k: usize, default: u64| words.get(k).map_or(default, |word| word.parse().expect("a number"));
+    let good = match words.iter().map(String::as_str).collect::<Vec<_>>()[..] {
+        ["vectors", folder] => vectors(folder)?,
+        [_, "only", _] => {
+            let mut random = Random::new(number(0, 0), number(2, 0));
+            let (_, book) = generate::generate(&mut random);
+            std::io::stdout().write_all(&book)?;
+            true
+        }
+        _ => {
+            let clock = std::time::SystemTime::now().duration_since(std::time::UNIX_EPOCH).map_or(0, |d| d.as_nanos());
+            generated(number(0, clock as u64), number(1, 20_000))
+        }
+    };
+    std::process::exit(!good as i32);
+}
