@@ -10,6 +10,7 @@ pub enum Class {
     Medium,
     Nested,
     Divided,
+    Layered,
     Places,
     TestSet,
     Facts,
@@ -21,11 +22,12 @@ pub enum Class {
 }
 
 /// How often each class comes, in a hundred.
-const SHARES: [(Class, usize); 12] = [
+const SHARES: [(Class, usize); 13] = [
     (Class::Small, 16),
     (Class::Medium, 6),
     (Class::Nested, 12),
-    (Class::Divided, 24),
+    (Class::Divided, 18),
+    (Class::Layered, 6),
     (Class::Places, 6),
     (Class::TestSet, 4),
     (Class::Facts, 3),
@@ -55,6 +57,7 @@ fn of_class(class: Class, random: &mut Random) -> Vec<u8> {
         Class::Medium => random_book(random, 12, 14, true).bytes(),
         Class::Nested => nested(random).shuffled(random).book.bytes(),
         Class::Divided => divided(random).book.bytes(),
+        Class::Layered => layered(random).book.bytes(),
         Class::Places => places(random).shuffled(random).book.bytes(),
         Class::TestSet => test_set(random).book.bytes(),
         Class::Facts => facts(random).shuffled(random).book.bytes(),
@@ -213,14 +216,63 @@ fn divided(random: &mut Random) -> Draft {
             _ => draft.rule(&[(link, &[0, 1]), (link, &[2, 0])], &[&[(left, &[1]), (left, &[0])]]),
         }
     }
+    changed(random, draft).shuffled(random)
+}
+
+/// Terms made layer by layer, and a blockable rule whose disjunct follows from how the inner terms were made.
+fn layered(random: &mut Random) -> Draft {
+    let mut draft = Draft::default();
+    let layers = random.within(2, 3);
+    let on: Vec<usize> = (0..=layers).map(|_| draft.predicate(1)).collect();
+    let link: Vec<usize> = (0..layers).map(|_| draft.predicate(2)).collect();
+    let good = draft.predicate(1);
+    let spare = draft.predicate(2);
+    for k in 0..layers {
+        let above: &[Sketch] = &[(link[k], &[0, 1]), (on[k + 1], &[1])];
+        match random.within(0, 5) {
+            0 => draft.rule(&[(on[k], &[0]), (spare, &[2, 3])], &[above]),
+            1 => draft.rule(&[(on[k], &[0]), (spare, &[0, 3])], &[above]),
+            2 => draft.rule(&[(on[k], &[0])], &[above, &[(spare, &[0, 4])]]),
+            _ => draft.rule(&[(on[k], &[0])], &[above]),
+        }
+    }
+    let top = random.within(2, layers);
+    let body: Sketch = if random.once_in(2) { (on[top], &[1]) } else { (link[top - 1], &[0, 1]) };
+    match random.within(0, 3) {
+        0 => draft.rule(&[body], &[&[(good, &[1])], &[(on[0], &[1])]]),
+        1 => draft.rule(&[body], &[&[(good, &[1])], &[(link[0], &[1, 5]), (on[0], &[5])]]),
+        2 => draft.rule(&[body, (good, &[2])], &[&[(good, &[1])], &[(on[0], &[1])]]),
+        _ => draft.rule(&[body], &[&[(good, &[1]), (spare, &[1, 1])], &[(on[0], &[1])]]),
+    }
+    for _ in 0..random.within(1, 2) {
+        let inner = random.within(0, top - 2);
+        match random.within(0, 4) {
+            0 => draft.rule(&[(link[top - 2], &[0, 1]), (link[top - 1], &[1, 2])], &[&[(good, &[2])]]),
+            1 => draft.rule(&[(on[inner], &[0]), (link[inner], &[0, 1]), (link[top - 1], &[3, 2])], &[&[(good, &[2])]]),
+            2 => draft.rule(&[(on[inner], &[0]), (on[top], &[1])], &[&[(good, &[1])]]),
+            3 => {
+                draft.rule(&[(link[top - 2], &[0, 1]), (link[top - 1], &[1, 2])], &[&[(good, &[2]), (spare, &[2, 2])]])
+            }
+            _ => draft.rule(&[(on[top - 1], &[1]), (link[top - 1], &[1, 2])], &[&[(good, &[2])]]),
+        }
+    }
+    if random.once_in(3) {
+        draft = changed(random, draft);
+    }
+    draft.shuffled(random)
+}
+
+/// The rule set with a few changes, or as it was where these are not sound.
+fn changed(random: &mut Random, draft: Draft) -> Draft {
     let mut changed = draft.clone();
     for _ in 0..random.one_of(&[0, 0, 1, 1, 2, 3]) {
         change(random, &mut changed.book);
     }
     if changed.book.rules.iter().all(|rule| rule.fault().is_none()) {
-        draft = changed;
+        changed
+    } else {
+        draft
     }
-    draft.shuffled(random)
 }
 
 /// One random change of a rule set.
@@ -456,13 +508,7 @@ fn crowded(random: &mut Random) -> Draft {
 fn back(random: &mut Random, mut draft: Draft, each: usize) -> Draft {
     match random.within(0, 9) {
         0..=1 if draft.rules_left() > 0 => draft.rule(&[(each, &[3])], &[&[(0, &[3])]]),
-        2 => {
-            let mut changed = draft.clone();
-            change(random, &mut changed.book);
-            if changed.book.rules.iter().all(|rule| rule.fault().is_none()) {
-                return changed;
-            }
-        }
+        2 => return changed(random, draft),
         _ => {}
     }
     draft
