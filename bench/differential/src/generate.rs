@@ -1,7 +1,7 @@
 //! Rule sets of several classes, each from its own random numbers.
 
-use crate::draft::{Draft, Sketch};
 use crate::random::Random;
+use reference::draft::{Draft, Sketch};
 use reference::{check, Atom, Book, Checked, Rule, Verdict};
 
 #[derive(Clone, Copy, PartialEq, Eq, PartialOrd, Ord, Debug)]
@@ -55,18 +55,45 @@ fn of_class(class: Class, random: &mut Random) -> Vec<u8> {
     match class {
         Class::Small => random_book(random, 5, 5, true).bytes(),
         Class::Medium => random_book(random, 12, 14, true).bytes(),
-        Class::Nested => nested(random).shuffled(random).book.bytes(),
+        Class::Nested => shuffled(nested(random), random).book.bytes(),
         Class::Divided => divided(random).book.bytes(),
         Class::Layered => layered(random).book.bytes(),
-        Class::Places => places(random).shuffled(random).book.bytes(),
+        Class::Places => shuffled(places(random), random).book.bytes(),
         Class::TestSet => test_set(random).book.bytes(),
-        Class::Facts => facts(random).shuffled(random).book.bytes(),
-        Class::Terms => terms(random).shuffled(random).book.bytes(),
-        Class::Crowded => crowded(random).shuffled(random).book.bytes(),
+        Class::Facts => shuffled(facts(random), random).book.bytes(),
+        Class::Terms => shuffled(terms(random), random).book.bytes(),
+        Class::Crowded => shuffled(crowded(random), random).book.bytes(),
         Class::Long => long(random).bytes(),
         Class::Unsound => random_book(random, 5, 5, false).bytes(),
         Class::Damaged => damaged(random),
     }
+}
+
+/// The same up to the numbers of predicates, rules and variables, and the order of atoms and disjuncts.
+pub fn shuffled(mut draft: Draft, random: &mut Random) -> Draft {
+    let book = &mut draft.book;
+    let mut order: Vec<usize> = (0..book.arities.len()).collect();
+    random.shuffle(&mut order);
+    let mut arities = vec![0; order.len()];
+    for (old, &new) in order.iter().enumerate() {
+        arities[new] = book.arities[old];
+    }
+    book.arities = arities;
+    random.shuffle(&mut book.rules);
+    for rule in &mut book.rules {
+        let mut variables: Vec<u8> = (0..8).collect();
+        random.shuffle(&mut variables);
+        random.shuffle(&mut rule.body);
+        random.shuffle(&mut rule.disjuncts);
+        rule.disjuncts.iter_mut().for_each(|disjunct| random.shuffle(disjunct));
+        for atom in rule.body.iter_mut().chain(rule.disjuncts.iter_mut().flatten()) {
+            atom.predicate = order[atom.predicate as usize] as u8;
+            for v in &mut atom.variables[..atom.arity as usize] {
+                *v = variables[*v as usize];
+            }
+        }
+    }
+    draft
 }
 
 /// A random atom over variables of a pool.
@@ -216,7 +243,7 @@ fn divided(random: &mut Random) -> Draft {
             _ => draft.rule(&[(link, &[0, 1]), (link, &[2, 0])], &[&[(left, &[1]), (left, &[0])]]),
         }
     }
-    changed(random, draft).shuffled(random)
+    shuffled(changed(random, draft), random)
 }
 
 /// Terms made layer by layer, and a blockable rule whose disjunct follows from how the inner terms were made.
@@ -259,7 +286,7 @@ fn layered(random: &mut Random) -> Draft {
     if random.once_in(3) {
         draft = changed(random, draft);
     }
-    draft.shuffled(random)
+    shuffled(draft, random)
 }
 
 /// The rule set with a few changes, or as it was where these are not sound.
@@ -439,7 +466,7 @@ fn test_set(random: &mut Random) -> Draft {
                 draft.book.rules.last_mut().unwrap().disjuncts[0].push(atom);
             }
         }
-        return draft.shuffled(random);
+        return shuffled(draft, random);
     }
 }
 

@@ -5,7 +5,6 @@
 //!     differential SEED only INDEX         one of them, written to standard output
 
 mod compare;
-mod draft;
 mod generate;
 mod random;
 

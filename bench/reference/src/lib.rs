@@ -4,6 +4,7 @@
 //! tables, to be compared with the proved library and to be the yardstick for its speed.
 //!
 //! - `book`: rule sets, their bytes, refusals 2 to 10
+//! - `draft`: rule sets under construction
 //! - `form`: the form that the library's `read` and `write` lend
 //! - `rules`: what a rule's variables say of it; Skolem functions; join plans
 //! - `facts`, `terms`: tables with hash indices
@@ -14,6 +15,7 @@
 
 pub mod blocking;
 pub mod book;
+pub mod draft;
 pub mod facts;
 pub mod form;
 pub mod hash;

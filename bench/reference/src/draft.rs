@@ -1,0 +1,41 @@
+//! Rule sets under construction, for those who make them by hand or by lot.
+
+use crate::book::{Atom, Book, Rule};
+
+/// An atom as a predicate and its variables.
+pub type Sketch<'a> = (usize, &'a [u8]);
+
+#[derive(Clone, Default)]
+pub struct Draft {
+    pub book: Book,
+}
+
+impl Draft {
+    /// Declares a predicate.
+    pub fn predicate(&mut self, arity: usize) -> usize {
+        self.book.arities.push(arity as u8);
+        self.book.arities.len() - 1
+    }
+
+    pub fn predicates_left(&self) -> usize {
+        64usize.saturating_sub(self.book.arities.len())
+    }
+
+    pub fn rules_left(&self) -> usize {
+        64usize.saturating_sub(self.book.rules.len())
+    }
+
+    pub fn atom(&self, sketch: Sketch) -> Atom {
+        let (predicate, over) = sketch;
+        let mut variables = [0; 4];
+        variables[..over.len()].copy_from_slice(over);
+        assert_eq!(over.len(), self.book.arities[predicate] as usize);
+        Atom { predicate: predicate as u8, arity: over.len() as u8, variables }
+    }
+
+    pub fn rule(&mut self, body: &[Sketch], disjuncts: &[&[Sketch]]) {
+        let atoms = |sketches: &[Sketch]| sketches.iter().map(|&sketch| self.atom(sketch)).collect::<Vec<_>>();
+        let rule = Rule { body: atoms(body), disjuncts: disjuncts.iter().map(|&d| atoms(d)).collect() };
+        self.book.rules.push(rule);
+    }
+}
