@@ -4,8 +4,8 @@
  * not null, even where the count is 0. Lists of one call do not overlap. Everything else is tested by the library,
  * which then refuses: each function takes any bytes and any numbers.
  *
- * All functions may be called from several threads at once. They keep nothing between calls and use no heap; what they
- * need lies on the stack (see README.md).
+ * All functions may be called from several threads at once. They keep nothing between calls and use no heap; their
+ * tables lie on the stack, of which a calling thread leaves them 1 MB.
  */
 #ifndef RULFJEN_H
 #define RULFJEN_H

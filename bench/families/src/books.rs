@@ -249,7 +249,7 @@ pub fn families(folder: &str) -> std::io::Result<Vec<Family>> {
         family("Predicates", "predicates", &[8, 16, 32, 64], predicates),
         family("Large terms", "terms", &[1, 2, 4, 8], large_terms),
         family("Limits", "rules", &[16, 32, 64], limits),
-        family("Cross", "terms", &[3, 6, 13], cross_first),
+        family("Cross", "terms", &[3, 6, 12, 13], cross_first),
         family("Cross, last", "terms", &[1, 2, 4], cross_last),
         vectors(folder)?,
     ])
