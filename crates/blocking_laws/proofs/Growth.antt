@@ -34,11 +34,6 @@ copyAll-grows copy h [] c = prefix-refl (c .terms)
 copyAll-grows copy h (i ∷ is) c =
     prefix-trans (h i (c .terms)) (copyAll-grows copy h is (record { numbers = c .numbers ++ ((length (copy i (c .terms)) - 1) ∷ []); terms = copy i (c .terms) }))
 
-pub copyAll-append : (copy : ℕ → List (List ℕ) → List (List ℕ)) (is js : List ℕ) (c : Copies) → copyAll copy (is ++ js) c ≡ copyAll copy js (copyAll copy is c)
-unfolding copyAll
-copyAll-append copy [] js c = refl
-copyAll-append copy (i ∷ is) js c = copyAll-append copy is js (record { numbers = c .numbers ++ ((length (copy i (c .terms)) - 1) ∷ []); terms = copy i (c .terms) })
-
 pub copyTerm-grows : (k : ℕ) (source : List (List ℕ)) (i : ℕ) (terms : List (List ℕ)) → Prefix terms (copyTerm k source i terms)
 unfolding copyTerm
 copyTerm-grows zero source i terms = prefix-append terms (constantRow ∷ [])

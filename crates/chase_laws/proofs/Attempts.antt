@@ -1,23 +1,24 @@
 -- Laws of one attempt: it is a step exactly where the rule set has its rule and disjunct and the trigger is applicable, and otherwise changes
 -- nothing; a step adds a fact at least. Assumes nothing.
-use mathlib.Core.Path.{_≡_, refl, sym, ap, subst}
+use mathlib.Core.Path.{_≡_, refl, ap}
 use mathlib.Core.Bool.{true, false, _||_, not}
 use mathlib.Core.Logic.{_⊎_, inl, inr}
-use mathlib.Core.List.{List, [], _∷_, List·Memᴰ, List·Memᴰ·head, List·Memᴰ·tail, List·Memᴰ·not-nil, List·Memᴰ·cases-cons}
-use Prim.Native.Nat.{ℕ, zero, suc, _+_, _≤_}
+use mathlib.Core.List.{List, [], _∷_, List·Memᴰ, List·Memᴰ·head, List·Memᴰ·tail}
+use Prim.Native.Nat.{ℕ, zero, suc, _≤_}
 use native.Mathlib.Omega.{arith}
 use native.Mathlib.Decide.{ℕ-discrete}
 use lib.ListN.{length, getD, drop, drop-of-length-le}
 use borrow.Author.Tests.{not-true}
 use Rattle.model.specs.Lists.{all, extend}
 use Rattle.model.specs.Term.{Term, star}
-use Rattle.model.specs.Rules.{Atom, Rule, RuleSet, Disjunct, Entry, countSkolem, disjunctsFrom, entriesFrom, entries, existential, datalog}
+use Rattle.model.specs.Rules.{Atom, RuleSet, Disjunct, Entry, entries, datalog}
 use Rattle.model.specs.Triggers.{sameFact, present, instantiate, headFacts}
 use Rattle.model.specs.Chase.{Attempt, State, satisfied, fits, datalogDone, applicable, addDisjunct, tryEntry, attempt}
 use Rattle.laws.proofs.Bools.{case, not-both, and-true}
 use Rattle.laws.proofs.Lists.{any-false, all-mem, mem-all, extend-length, extend-same-length}
 use Rattle.laws.proofs.Facts.{sameFact-decides, present-mem, mem-present}
 use Rattle.laws.proofs.Triggers.{Loaded}
+use Rattle.laws.proofs.Rules.{length-entriesFrom, length-disjuncts}
 
 module _ {ℓ} {A : Type ℓ} where
   -- the element at n: the first of what is left after n
@@ -88,43 +89,19 @@ attempt-turned-away b a s n = go (attempt-cases b a s)
 
 -- numbers out of range name nothing
 
-entriesFrom-length : (n : ℕ) (rs : List Rule) → length (entriesFrom n rs) ≡ length rs
-unfolding entriesFrom
-entriesFrom-length n [] = refl
-entriesFrom-length n (r ∷ rs) = ap suc (entriesFrom-length (n + countSkolem r (r .head)) rs)
-
 pub entries-length : (b : RuleSet) → length (entries b) ≡ length (b .rules)
 unfolding entries
-entries-length b = entriesFrom-length 0 (b .rules)
+entries-length b = length-entriesFrom 0 (b .rules)
 
 pub attempt-rule-out-of-range : (b : RuleSet) (a : Attempt) (s : State) → length (b .rules) ≤ a .rule → attempt b a s ≡ s
 attempt-rule-out-of-range b a s h = attempt-no-rule b a s (drop-of-length-le (entries b) {i = a .rule} (rw (entries-length b) h))
 
-disjunctsFrom-length : (n : ℕ) (r : Rule) (ds : List (List Atom)) → length (disjunctsFrom n r ds) ≡ length ds
-unfolding disjunctsFrom
-disjunctsFrom-length n r [] = refl
-disjunctsFrom-length n r (d ∷ ds) = ap suc (disjunctsFrom-length (n + length (existential r d)) r ds)
-
-entriesFrom-disjuncts : (n : ℕ) (rs : List Rule) {e : Entry} → List·Memᴰ e (entriesFrom n rs) → length (e .disjuncts) ≡ length (e .rule .head)
-unfolding entriesFrom
-entriesFrom-disjuncts n [] m = absurd (List·Memᴰ·not-nil m)
-entriesFrom-disjuncts n (r ∷ rs) {e} m = go (λ k. entriesFrom-disjuncts (n + countSkolem r (r .head)) rs k) (List·Memᴰ·cases-cons m)
-  where
-    first : Entry
-    first = record { rule = r; disjuncts = disjunctsFrom n r (r .head) }
-
-    go : (List·Memᴰ e (entriesFrom (n + countSkolem r (r .head)) rs) → length (e .disjuncts) ≡ length (e .rule .head))
-        → (e ≡ first) ⊎ List·Memᴰ e (entriesFrom (n + countSkolem r (r .head)) rs) → length (e .disjuncts) ≡ length (e .rule .head)
-    go below (inl k) = subst (λ (x : Entry). length (x .disjuncts) ≡ length (x .rule .head)) (sym k) (disjunctsFrom-length n r (r .head))
-    go below (inr k) = below k
-
 pub attempt-disjunct-out-of-range : (b : RuleSet) (a : Attempt) (s : State) {e : Entry} {es : List Entry} → drop (a .rule) (entries b) ≡ e ∷ es
     → length (e .rule .head) ≤ a .disjunct → attempt b a s ≡ s
-unfolding entries
 attempt-disjunct-out-of-range b a s {e} {es} i h = go (case (applicable (entries b) (s .facts) e (given a)))
   where
     short : length (e .disjuncts) ≤ a .disjunct
-    short = rw (entriesFrom-disjuncts 0 (b .rules) (drop-mem (a .rule) (entries b) i)) h
+    short = rw (length-disjuncts b (drop-mem (a .rule) (entries b) i)) h
 
     go : (applicable (entries b) (s .facts) e (given a) ≡ true) ⊎ (applicable (entries b) (s .facts) e (given a) ≡ false) → attempt b a s ≡ s
     go (inl k) = attempt-no-disjunct b a s e es i k (drop-of-length-le (e .disjuncts) {i = a .disjunct} short)

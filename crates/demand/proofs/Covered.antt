@@ -3,7 +3,7 @@
 use mathlib.Core.Path.{_≡_, refl, sym, ap, _∙_, subst}
 use mathlib.Core.Bool.{true, false, _||_}
 use mathlib.Core.Logic.{_⊎_, inl, inr, ⊎-elim}
-use mathlib.Core.List.{List, [], _∷_, map, List·Memᴰ, List·Memᴰ·not-nil, Memᴰ·cast}
+use mathlib.Core.List.{List, [], _∷_, map, List·Memᴰ, List·Memᴰ·not-nil, Memᴰ·cast, map-map}
 use Prim.Native.Nat.{ℕ}
 use native.Mathlib.Nat.{zero-add}
 use lib.ListN.{length, replicate, length-map}
@@ -22,11 +22,11 @@ use Rattle.laws.proofs.Lists.{mem-collect, extend-mem}
 use Rattle.laws.proofs.Facts.{fact-path}
 use Rattle.laws.proofs.Rules.{entries-mem}
 use Rattle.laws.proofs.Triggers.{Loaded, Agree, headFacts-agree, mem-output}
+use Rattle.laws.proofs.WellFormed.{entry-well-formed}
 use Rattle.stage_laws.proofs.Arities.{mem-critical}
 use Rattle.published_laws.proofs.Blocked.{blocked-sound}
-use Rattle.published_laws.proofs.Invention.{entry-well-formed}
 use Rattle.chase_laws.proofs.Attempts.{Applies, given, stepped, attempt-steps, attempt-cases, applies-entry, applies-disjunct, applies-loaded, applies-unsatisfied}
-use Rattle.demand.proofs.Maps.{map-map, map-instantiate, mem-map-headFacts}
+use Rattle.demand.proofs.Maps.{map-instantiate, mem-map-headFacts}
 use Rattle.demand.proofs.Starred.{starred-commutes, starredFact-map, any-cyclic-starred, blocked-starred}
 use Rattle.demand.proofs.Loaded.{assign-agree, loaded-agree}
 use Rattle.demand.proofs.Origins.{Explained, explained-start, explained-step}

@@ -16,12 +16,12 @@ use Rattle.model.specs.Chase.{Attempt, satisfied, fits, datalogDone}
 use Rattle.laws.proofs.Bools.{case, not-both, or-true, or-left, or-right, is-false}
 use Rattle.laws.proofs.Lists.{all-mem, mem-all, map-mem, extend-right}
 use Rattle.laws.proofs.Terms.{same-decides}
-use Rattle.laws.proofs.Rules.{universal-mem, entries-mem}
-use Rattle.published_laws.proofs.Invention.{entry-well-formed}
-use Rattle.laws.proofs.Triggers.{Loaded, Assignment, triggers-mem, mem-triggers}
+use Rattle.laws.proofs.Rules.{universal-mem, entries-mem, length-disjuncts}
+use Rattle.laws.proofs.Triggers.{Loaded, Assignment, triggers-mem, mem-triggers, loaded-value}
+use Rattle.laws.proofs.WellFormed.{inBody-range, entry-well-formed}
 use Rattle.chase_laws.proofs.Attempts.{given, drop-mem}
-use Rattle.demand.proofs.Loaded.{assign-agree, loaded-agree, loaded-terms, satisfied-agree, fits-loaded, fits-unsatisfied, loaded-fits, fits-agree, inBody-range}
-use Rattle.demand.proofs.Disjuncts.{length-disjuncts, some-disjunct}
+use Rattle.demand.proofs.Loaded.{assign-agree, loaded-agree, satisfied-agree, fits-loaded, fits-unsatisfied, loaded-fits, fits-agree}
+use Rattle.demand.proofs.Disjuncts.{some-disjunct}
 
 loaded-assignment : (r : Rule) (fs : List Fact) (σ : ℕ → Term) → Loaded r fs σ
     → Assignment (universal r) (extend same [] (termsOf fs)) (map σ (universal r))
@@ -30,7 +30,7 @@ loaded-assignment r fs σ l =
       total = length-map (universal r) σ;
       terms = λ t m.
           let (v, k, e) = map-mem σ (universal r) m in
-          extend-right same same-decides [] (Memᴰ·cast e (loaded-terms r fs σ l (universal-mem r k)));
+          extend-right same same-decides [] (Memᴰ·cast e (loaded-value r fs σ l (universal-mem r k)));
     }
 
 -- what the test asks of one entry

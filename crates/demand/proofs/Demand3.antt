@@ -1,33 +1,22 @@
 -- Demand 3 over the definitions: the facts of the stage that the verdict accepts bound every filling. Assumes nothing.
 use mathlib.Core.Path.{_≡_}
-use mathlib.Core.List.{List, List·Memᴰ}
+use mathlib.Core.List.{List}
 use Prim.Native.Nat.{ℕ}
 use native.Mathlib.Omega.{arith}
-use Rattle.model.specs.Term.{Term, cyclic}
-use Rattle.model.specs.Rules.{RuleSet, Entry, entries, universal}
+use Rattle.model.specs.Term.{cyclic}
+use Rattle.model.specs.Rules.{RuleSet, entries}
 use Rattle.model.specs.WellFormed.{WellFormed}
-use Rattle.model.specs.Triggers.{Fact, assign}
-use Rattle.model.specs.Stages.{stage, triggersIn, verdict, accepted}
-use Rattle.model.specs.Published.{Substitution}
+use Rattle.model.specs.Triggers.{Fact}
+use Rattle.model.specs.Stages.{stage, verdict, accepted}
 use Rattle.model.specs.Demand.{Demand3}
 use Rattle.laws.proofs.Lists.{false-any}
-use Rattle.laws.proofs.Facts.{termsOf-mem}
-use Rattle.laws.proofs.Triggers.{Loaded}
 use Rattle.stage_laws.proofs.Lists.{prefix-mem}
 use Rattle.stage_laws.proofs.Outputs.{mem-outputs}
-use Rattle.stage_laws.proofs.Growth.{stage-zero-facts, facts-grow, arguments-in-terms, outputs-in}
+use Rattle.stage_laws.proofs.Growth.{stage-zero-facts, facts-grow, outputs-in}
 use Rattle.stage_laws.proofs.Verdict.{Accepted, accepted-says}
-use Rattle.published_laws.proofs.Closure.{loaded-trigger}
-use Rattle.published_laws.proofs.Dmfa.{stage-acyclic}
+use Rattle.published_laws.proofs.Dmfa.{stage-acyclic, mem-triggersIn}
 use Rattle.chase_laws.proofs.Steps.{steps-bounded}
 use Rattle.demand.proofs.Covered.{Saturated, chase-covered}
-
-mem-triggersIn : (b : RuleSet) (n : ℕ) (e : Entry) (m : List Term) → Substitution (e .rule) m
-    → Loaded (e .rule) (stage b n .facts) (assign (universal (e .rule)) m) → List·Memᴰ m (triggersIn (stage b n) e)
-unfolding triggersIn
-mem-triggersIn b n e m s l =
-    loaded-trigger (e .rule) (stage b n .terms) (stage b n .facts) m s l
-    (λ t k. let (f, i, j) = termsOf-mem (stage b n .facts) k in arguments-in-terms b n i j)
 
 pub accepted-saturated : {b : RuleSet} {n f t : ℕ} → Accepted b n f t → Saturated b (stage b n .facts)
 accepted-saturated {b} {n} a =

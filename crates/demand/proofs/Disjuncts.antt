@@ -1,38 +1,16 @@
--- An entry has a disjunct for each of its rule's, and that of a Datalog rule has one. Assumes nothing.
-use mathlib.Core.Path.{_≡_, refl, sym, ap, _∙_, subst}
+-- An entry of a Datalog rule has one disjunct. Assumes nothing.
+use mathlib.Core.Path.{_≡_, refl, sym, _∙_}
 use mathlib.Core.Bool.{true}
-use mathlib.Core.Logic.{_⊎_, inl, inr}
-use mathlib.Core.List.{List, [], _∷_, List·Memᴰ, List·Memᴰ·not-nil, List·Memᴰ·cases-cons, List·Memᴰ·eq-of-singleton}
-use Prim.Native.Nat.{_≤_, ℕ, suc, _+_}
+use mathlib.Core.List.{List, [], _∷_, List·Memᴰ, List·Memᴰ·not-nil, List·Memᴰ·eq-of-singleton}
+use Prim.Native.Nat.{_≤_}
 use native.Mathlib.Omega.{arith}
 use lib.Dec.{eqb}
 use lib.ListN.{length}
 use borrow.Author.Tests.{eqb-true}
 use Rattle.model.specs.Lists.{all}
-use Rattle.model.specs.Rules.{Atom, Rule, RuleSet, Disjunct, Entry, existential, existentialFree, disjunctsFrom, countSkolem, entriesFrom, entries, datalog}
+use Rattle.model.specs.Rules.{RuleSet, Disjunct, Entry, existentialFree, entries, datalog}
 use Rattle.laws.proofs.Bools.{and-true}
-
-disjunctsFrom-length : (n : ℕ) (r : Rule) (ds : List (List Atom)) → length (disjunctsFrom n r ds) ≡ length ds
-unfolding disjunctsFrom
-disjunctsFrom-length n r [] = refl
-disjunctsFrom-length n r (d ∷ ds) = ap suc (disjunctsFrom-length (n + length (existential r d)) r ds)
-
-entriesFrom-disjuncts : (n : ℕ) (rs : List Rule) {e : Entry} → List·Memᴰ e (entriesFrom n rs) → length (e .disjuncts) ≡ length (e .rule .head)
-unfolding entriesFrom
-entriesFrom-disjuncts n [] m = absurd (List·Memᴰ·not-nil m)
-entriesFrom-disjuncts n (r ∷ rs) {e} m = go (λ k. entriesFrom-disjuncts (n + countSkolem r (r .head)) rs k) (List·Memᴰ·cases-cons m)
-  where
-    rest : List Entry
-    rest = entriesFrom (n + countSkolem r (r .head)) rs
-
-    go : (List·Memᴰ e rest → length (e .disjuncts) ≡ length (e .rule .head))
-        → (e ≡ record { rule = r; disjuncts = disjunctsFrom n r (r .head) }) ⊎ List·Memᴰ e rest → length (e .disjuncts) ≡ length (e .rule .head)
-    go below (inl k) = subst (λ (x : Entry). length (x .disjuncts) ≡ length (x .rule .head)) (sym k) (disjunctsFrom-length n r (r .head))
-    go below (inr k) = below k
-
-pub length-disjuncts : (b : RuleSet) {e : Entry} → List·Memᴰ e (entries b) → length (e .disjuncts) ≡ length (e .rule .head)
-unfolding entries
-length-disjuncts b m = entriesFrom-disjuncts 0 (b .rules) m
+use Rattle.laws.proofs.Rules.{length-disjuncts}
 
 pub some-disjunct : (ds : List Disjunct) → 1 ≤ length ds → (c : Disjunct) × (cs : List Disjunct) × (ds ≡ c ∷ cs)
 some-disjunct [] h = absurd (omega arith)

@@ -2,26 +2,20 @@
 use mathlib.Core.Path.{_≡_, sym, subst}
 use mathlib.Core.Bool.{true, false, not}
 use mathlib.Core.List.{List, map, List·Memᴰ, Memᴰ·cast}
-use Prim.Native.Nat.{ℕ, _≤_}
+use Prim.Native.Nat.{ℕ}
 use borrow.Author.Tests.{not-true}
 use Rattle.model.specs.Lists.{all}
 use Rattle.model.specs.Term.{Term}
 use Rattle.model.specs.Rules.{Atom, Rule, Disjunct, Entry, inBody, universal}
 use Rattle.model.specs.WellFormed.{WellFormedRule}
-use Rattle.model.specs.Triggers.{Fact, present, termsOf, assign, instantiate, headFacts}
+use Rattle.model.specs.Triggers.{Fact, present, assign, instantiate, headFacts}
 use Rattle.model.specs.Chase.{satisfied, fits}
 use Rattle.laws.proofs.Bools.{not-both, and-true, true-and, is-false}
-use Rattle.laws.proofs.Lists.{any-mem, mem-any, all-mem, mem-all, mem-map}
-use Rattle.laws.proofs.Facts.{present-mem, mem-present, mem-termsOf}
-use Rattle.laws.proofs.Rules.{inBody-mem, mem-inBody, variablesOf-mem, mem-variablesOf, mem-universal, Entered}
-use Rattle.published_laws.proofs.Invention.{variable-range}
+use Rattle.laws.proofs.Lists.{any-mem, mem-any, all-mem, mem-all}
+use Rattle.laws.proofs.Facts.{present-mem, mem-present}
+use Rattle.laws.proofs.Rules.{mem-inBody, mem-variablesOf, Entered}
 use Rattle.laws.proofs.Triggers.{Agree, Loaded, assign-map, instantiate-agree, headFacts-agree}
-
-pub inBody-range : {arities : List ℕ} {r : Rule} → WellFormedRule arities r → {v : ℕ} → inBody r v ≡ true → v ≤ 7
-inBody-range {r = r} w {v} e = variable-range (w .body) (inBody-mem r v e)
-
-pub inBody-universal : {arities : List ℕ} {r : Rule} → WellFormedRule arities r → {v : ℕ} → inBody r v ≡ true → List·Memᴰ v (universal r)
-inBody-universal {r = r} w e = mem-universal r (inBody-range w e) e
+use Rattle.laws.proofs.WellFormed.{inBody-universal}
 
 -- the terms of a trigger say what its substitution does on the body
 pub assign-agree : {arities : List ℕ} {r : Rule} → WellFormedRule arities r → (σ : ℕ → Term) → Agree r (assign (universal r) (map σ (universal r))) σ
@@ -29,13 +23,6 @@ assign-agree {r = r} w σ v e = assign-map (universal r) σ (inBody-universal w 
 
 pub loaded-agree : (r : Rule) (fs : List Fact) {σ τ : ℕ → Term} → Agree r σ τ → Loaded r fs σ → Loaded r fs τ
 loaded-agree r fs {σ} {τ} h l a m = Memᴰ·cast (instantiate-agree τ σ a (λ v k. sym (h v (mem-inBody r (mem-variablesOf m k))))) (l a m)
-
--- each term of a loaded trigger is an argument of a fact
-pub loaded-terms : (r : Rule) (fs : List Fact) (σ : ℕ → Term) → Loaded r fs σ → {v : ℕ} → inBody r v ≡ true → List·Memᴰ (σ v) (termsOf fs)
-unfolding instantiate
-loaded-terms r fs σ l {v} e =
-    let (a, m, k) = variablesOf-mem (r .body) (inBody-mem r v e) in
-    mem-termsOf (l a m) (mem-map σ k)
 
 -- a disjunct is satisfied: all its facts are in the set
 abbrev pub Satisfied : List Fact → (ℕ → Term) → Disjunct → Type 0

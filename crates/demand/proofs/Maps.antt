@@ -2,7 +2,7 @@
 use mathlib.Core.Path.{_≡_, refl, sym, ap, _∙_}
 use mathlib.Core.Bool.{true, false}
 use mathlib.Core.Logic.{_⊎_, inl, inr}
-use mathlib.Core.List.{List, [], _∷_, map, List·Memᴰ}
+use mathlib.Core.List.{List, [], _∷_, map, List·Memᴰ, map-map}
 use Prim.Native.Nat.{ℕ, suc, _+_}
 use lib.Dec.{eqb}
 use Rattle.model.specs.Lists.{index}
@@ -13,11 +13,6 @@ use Rattle.laws.proofs.Bools.{case}
 use Rattle.laws.proofs.Lists.{mem-map}
 use Rattle.laws.proofs.Facts.{fact-path}
 use Rattle.laws.proofs.Triggers.{map-agree, headTerm-universal, headTerm-existential}
-
-module _ {ℓ ℓ′ ℓ″} {A : Type ℓ} {B : Type ℓ′} {C : Type ℓ″} where
-  pub map-map : (g : B → C) (f : A → B) (xs : List A) → map g (map f xs) ≡ map (λ (x : A). g (f x)) xs
-  map-map g f [] = refl
-  map-map g f (x ∷ xs) = ap (λ (ys : List C). g (f x) ∷ ys) (map-map g f xs)
 
 abbrev pub mapFact : (Term → Term) → Fact → Fact
 mapFact h f = record { predicate = f .predicate; arguments = map h (f .arguments) }

@@ -17,10 +17,10 @@ use Rattle.laws.proofs.Lists.{collect-mem, map-mem, extend-left, extend-right, 
 use Rattle.laws.proofs.Terms.{list-terms}
 use Rattle.laws.proofs.Facts.{sameFact-decides, mem-termsOf, termsOf-mem}
 use Rattle.laws.proofs.Rules.{universal-mem, frontier-mem, mem-existential, mem-variablesOf, entries-mem}
-use Rattle.laws.proofs.Triggers.{Loaded, headTerm-universal, headTerm-existential, headFacts-mem}
+use Rattle.laws.proofs.Triggers.{Loaded, headTerm-universal, headTerm-existential, headFacts-mem, loaded-value}
+use Rattle.laws.proofs.WellFormed.{entry-well-formed}
 use Rattle.demand.proofs.Skolem.{disjunctsOf, owns-existential}
-use Rattle.published_laws.proofs.Invention.{entry-well-formed}
-use Rattle.demand.proofs.Loaded.{loaded-terms, Satisfied}
+use Rattle.demand.proofs.Loaded.{Satisfied}
 use Rattle.demand.proofs.Subterms.{subtermsOf, subterms, subtermsAll, skolem-function, skolem-arguments, subterms-skolem, subterms-constant, subtermsAll-terms, mem-subtermsOf, subtermsOf-mem}
 
 -- the step that made skolem f ts
@@ -78,7 +78,7 @@ module _ {b : RuleSet} (w : WellFormed b) {fs : List Fact} (x : Explained b fs) 
   old f ts k = origin-grows (λ g i. extend-left sameFact (headFacts σ d) i) (x f ts k)
 
   bound-variable : (v : ℕ) → inBody (d .rule) v ≡ true → (f : ℕ) (ts : Terms) → List·Memᴰ (skolem f ts) (subterms (σ v)) → Origin b added f ts
-  bound-variable v e f ts k = old f ts (mem-subtermsOf fs (loaded-terms (d .rule) fs σ l e) k)
+  bound-variable v e f ts k = old f ts (mem-subtermsOf fs (loaded-value (d .rule) fs σ l e) k)
 
   new : {v : ℕ} → List·Memᴰ v (existential (d .rule) (d .atoms))
       → Origin b added (d .before + suc (index eqb v (existential (d .rule) (d .atoms)))) (terms (map σ (frontier (d .rule))))

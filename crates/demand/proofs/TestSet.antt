@@ -21,11 +21,11 @@ use Rattle.laws.proofs.Bools.{case}
 use Rattle.laws.proofs.Lists.{any-eq-mem, any-eq-not-mem, keep-mem, member-mem, collect-mem, map-mem, mem-map, extend-mem}
 use Rattle.laws.proofs.Terms.{same-decides}
 use Rattle.laws.proofs.Rules.{mem-inBody, mem-variablesOf, universal-mem, entries-mem}
-use Rattle.laws.proofs.Triggers.{Loaded, Agree, assign-map, instantiate-agree, headFacts-agree}
+use Rattle.laws.proofs.Triggers.{Loaded, Agree, assign-map, instantiate-agree, headFacts-agree, loaded-value}
+use Rattle.laws.proofs.WellFormed.{inBody-universal, entry-well-formed}
 use Rattle.demand.proofs.Maps.{mapFact, Commutes, map-assign, map-instantiate, map-headFacts, mem-map-headFacts}
 use Rattle.demand.proofs.Skolem.{disjunctsOf, owner-unique}
-use Rattle.published_laws.proofs.Invention.{entry-well-formed}
-use Rattle.demand.proofs.Loaded.{inBody-universal, loaded-terms, Satisfied, mem-satisfied}
+use Rattle.demand.proofs.Loaded.{Satisfied, mem-satisfied}
 use Rattle.demand.proofs.Subterms.{subtermsOf, termsOf-subtermsOf, subtermsOf-argument}
 use Rattle.demand.proofs.Origins.{Origin, Explained}
 use Rattle.demand.proofs.Closure.{closed-map}
@@ -238,7 +238,7 @@ module _ {b : RuleSet} (w : WellFormed b) {fs : List Fact} (x : Explained b fs) 
   apartTerms-restored : {t : Term} → List·Memᴰ t apartTerms → List·Memᴰ (restored x σ t) (subtermsOf fs)
   apartTerms-restored m =
       let (v, i, e) = map-mem (λ (v : ℕ). rename (σ v) (root v)) (universal r) (rw (renamed-map (binding x) σ (universal r)) at m) in
-      Memᴰ·cast (ap (restored x σ) e ∙ back-root (binding x) σ v) (termsOf-subtermsOf fs (loaded-terms r fs σ l (universal-mem r i)))
+      Memᴰ·cast (ap (restored x σ) e ∙ back-root (binding x) σ v) (termsOf-subtermsOf fs (loaded-value r fs σ l (universal-mem r i)))
 
   testBase-restored : (f : Fact) → List·Memᴰ f (testBase (entries b) r apartTerms) → List·Memᴰ (mapFact (restored x σ) f) fs
   unfolding testBase

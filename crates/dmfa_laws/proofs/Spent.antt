@@ -15,6 +15,7 @@ use Rattle.laws.proofs.Terms.{same-decides}
 use Rattle.laws.proofs.Facts.{sameFact-decides, termsOf-mem}
 use Rattle.laws.proofs.Rules.{entries-mem, inBody-mem, variablesOf-mem, mem-universal}
 use Rattle.laws.proofs.Triggers.{Assignment, assign-mem, triggers-mem}
+use Rattle.laws.proofs.WellFormed.{entry-well-formed}
 use Rattle.stage_laws.proofs.Lists.{extend-nothing}
 use Rattle.stage_laws.proofs.Outputs.{contribution-free}
 use Rattle.stage_laws.proofs.Growth.{arguments-in-terms}
@@ -27,7 +28,6 @@ use Rattle.rows.proofs.Triggers.{numbers-encoded}
 use Rattle.rows.proofs.Outputs.{Placed}
 use Rattle.stage_rows.specs.Making.{Made, handled, makeOutput}
 use Rattle.dmfa_laws.proofs.Lists.{keep-nothing}
-use Rattle.dmfa_laws.proofs.Stages.{rule-well-formed}
 use Rattle.dmfa_laws.proofs.Handled.{leaving, handled-spent}
 use Rattle.dmfa_laws.proofs.Follows.{Follows, follows-start, follows-output}
 
@@ -76,7 +76,7 @@ module _ (b : RuleSet) (w : WellFormed b) (n : ℕ) (r : Reached b n) where
     body-universal : (v : ℕ) → inBody (e .rule) v ≡ true → List·Memᴰ v (universal (e .rule))
     body-universal v h =
         let (a, p, q) = variablesOf-mem (e .rule .body) (inBody-mem (e .rule) v h) in
-        mem-universal (e .rule) (rule-well-formed b w i .body .each a p .range v q) h
+        mem-universal (e .rule) (entry-well-formed w i .body .each a p .range v q) h
 
     -- the trigger's terms stand in the stage, by their numbers
     trigger-placed : Placed ts (e .rule) σ α

@@ -17,7 +17,8 @@ use Rattle.model.specs.WellFormed.{WellFormedAtom, WellFormedAtoms, WellFormedR
 use Rattle.model.specs.Format.{good, bad, ruleSet, bytesOf}
 use Rattle.model.specs.Form.{formLength, aritiesPlace, spaced, atomAt, groupAt, ruleAt, decoded, done, refusal, Writing, writing, countedInAtom, countedInGroup, countedInRule, counted}
 use Rattle.laws.proofs.Bools.{case, true-and}
-use Rattle.format_laws.proofs.Places.{numbersFrom-length, counted-rules, counted-arities, atoms-few, atom-well-formed, disjuncts-few, group-well-formed, aritiesOf, arities-few, rules-few, rule-well-formed, arities-same, arities-low}
+use Rattle.laws.proofs.Places.{length-numbersFrom}
+use Rattle.format_laws.proofs.Places.{counted-rules, counted-arities, atoms-few, atom-well-formed, disjuncts-few, group-well-formed, aritiesOf, arities-few, rules-few, rule-well-formed, arities-same, arities-low}
 
 -- the second of two tests matters only where the first passes
 and-same : (t : Bool) {a b : Bool} → (t ≡ true → b ≡ a) → t && b ≡ t && a
@@ -177,7 +178,7 @@ module _ (form other : List ℕ) where
     arities-alike : (p : ℕ) → p < length (aritiesOf form) → getD other (aritiesPlace + p) 0 ≡ getD form (aritiesPlace + p) 0
     arities-alike p m =
         let few = arities-few form w in
-        let count = numbersFrom-length form aritiesPlace (getD form 0 0) in
+        let count = length-numbersFrom form aritiesPlace (getD form 0 0) in
         let here : 6784 + p - 6784 ≡ p = omega arith in
         let place : suc (suc (6784 + p)) ≡ 6786 + p = omega arith in
         rw place at (agree (suc (suc (6784 + p))) (omega arith) (counted-arities form (6784 + p) (omega arith) ∙ rw here (lt-ltb p (getD form 0 0) (omega arith))))
@@ -198,7 +199,7 @@ module _ (form other : List ℕ) where
     unfolding decoded
     decoded-agree =
         let arities : List ℕ = aritiesOf form in
-        let count = numbersFrom-length form aritiesPlace (getD form 0 0) in
+        let count = length-numbersFrom form aritiesPlace (getD form 0 0) in
         let p : aritiesOf other ≡ arities =
         ap (numbersFrom other aritiesPlace) arities-count ∙ numbersFrom-agree form other aritiesPlace (getD form 0 0) (λ k m. arities-alike k (omega arith))
         in

@@ -14,8 +14,8 @@ use Rattle.model.specs.Rules.{Atom, Rule, RuleSet}
 use Rattle.model.specs.WellFormed.{WellFormedAtom, WellFormedAtoms, WellFormedRule, WellFormed}
 use Rattle.model.specs.Format.{good, ruleSet, stated, read, atomBytes, atomsBytes, ruleBytes, content, bigEndian, bytesOf}
 use Rattle.laws.proofs.Bools.{case, and-true, true-and}
-use Rattle.laws.proofs.Lists.{collect-mem}
-use Rattle.format_laws.proofs.Lists.{getD-mem, length-collect-le}
+use Rattle.laws.proofs.Lists.{collect-mem, getD-mem}
+use Rattle.format_laws.proofs.Lists.{length-collect-le}
 use Rattle.format_laws.proofs.Parsers.{Yields, refused, yields-good, yields-map, meets-good}
 use Rattle.format_laws.proofs.Format.{Content, ruleSet-sound, ruleSet-meets, wellFormed-shaped}
 

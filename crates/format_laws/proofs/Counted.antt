@@ -17,10 +17,11 @@ use Rattle.model.specs.WellFormed.{WellFormedAtom, WellFormedAtoms, WellFormedR
 use Rattle.model.specs.Format.{good, read}
 use Rattle.model.specs.Form.{formLength, aritiesPlace, atomRow, group, ruleRow, encoded, spaced, atomAt, groupAt, ruleAt, decoded, done, Reading, reading, writing, countedInAtom, countedInGroup, countedInRule, counted}
 use Rattle.laws.proofs.Bools.{case}
+use Rattle.laws.proofs.Places.{getD-padded, length-padded, length-numbersFrom, length-spaced}
 use Rattle.format_laws.proofs.Bytes.{read-well-formed}
 use Rattle.format_laws.proofs.Form.{encoded-length, decoded-encoded}
 use Rattle.format_laws.proofs.RoundTrip.{writing-done, written-read, reading-done, reading-good}
-use Rattle.format_laws.proofs.Places.{only, padded-place, padded-length, numbersFrom-place, numbersFrom-length, spaced-length, counted-rules, counted-arities, atoms-few, atom-well-formed, disjuncts-few, group-well-formed, aritiesOf, rules-few, rule-well-formed, arities-same, arities-low}
+use Rattle.format_laws.proofs.Places.{only, numbersFrom-place, counted-rules, counted-arities, atoms-few, atom-well-formed, disjuncts-few, group-well-formed, aritiesOf, rules-few, rule-well-formed, arities-same, arities-low}
 use Rattle.format_laws.proofs.Agreement.{counted-agree}
 
 -- the row of what is read at a place has the numbers that stand there, where they count, and 0 elsewhere
@@ -67,8 +68,8 @@ module _ (form arities : List ℕ) (same : (p : ℕ) → p < length arities → 
       let l : n ≤ 4 = low (getD form at 0) (h .declared) in
       let xs : List ℕ = getD form at 0 ∷ numbersFrom form (suc at) n in
       record {
-        wide = padded-length 5 xs (omega (arith, numbersFrom-length form (suc at) n));
-        place = λ p. padded-place 5 xs p ∙ rw (← same (getD form at 0) (h .declared)) (go n p);
+        wide = length-padded 5 xs (omega (arith, length-numbersFrom form (suc at) n));
+        place = λ p. getD-padded 5 xs p ∙ rw (← same (getD form at 0) (h .declared)) (go n p);
       }
     where
       go : (n p : ℕ) → getD (getD form at 0 ∷ numbersFrom form (suc at) n) p 0 ≡ only (leb p n) (getD form (at + p) 0)
@@ -82,8 +83,8 @@ module _ (form arities : List ℕ) (same : (p : ℕ) → p < length arities → 
         wide =
             let few = atoms-few form arities at h in
             let l = rows-length form atomRow (atomAt form arities) 5 (countedInAtom form) (getD form at 0) (suc at) each in
-            padded-length 21 (length atoms ∷ collect atomRow atoms) (omega arith);
-        place = λ p. padded-place 21 (length atoms ∷ collect atomRow atoms) p ∙ go p;
+            length-padded 21 (length atoms ∷ collect atomRow atoms) (omega arith);
+        place = λ p. getD-padded 21 (length atoms ∷ collect atomRow atoms) p ∙ go p;
       }
     where
       atoms : List Atom
@@ -93,7 +94,7 @@ module _ (form arities : List ℕ) (same : (p : ℕ) → p < length arities → 
       each k m = atom-laid (suc at + k * 5) (atom-well-formed form arities at h k m)
 
       go : (p : ℕ) → getD (length atoms ∷ collect atomRow atoms) p 0 ≡ only (countedInGroup form at p) (getD form (at + p) 0)
-      go zero = spaced-length (atomAt form arities) 5 (getD form at 0) (suc at) ∙ ap (λ (k : ℕ). getD form k 0) (omega arith)
+      go zero = length-spaced (atomAt form arities) 5 (getD form at 0) (suc at) ∙ ap (λ (k : ℕ). getD form k 0) (omega arith)
       go (suc p) =
           let split : p ≡ (p / 5) * 5 + p % 5 = omega arith in
           let place : suc at + ((p / 5) * 5 + p % 5) ≡ at + suc p = omega arith in
@@ -120,8 +121,8 @@ module _ (form arities : List ℕ) (same : (p : ℕ) → p < length arities → 
         wide =
             let few = disjuncts-few form arities at h in
             let l = rows-length form group (groupAt form arities) 21 (countedInGroup form) (suc (getD form at 0)) (suc at) (groups-laid at h) in
-            padded-length 106 (length head ∷ groups) (omega (arith, ap length (groups-behind at (getD form at 0))));
-        place = λ p. padded-place 106 (length head ∷ groups) p ∙ go p;
+            length-padded 106 (length head ∷ groups) (omega (arith, ap length (groups-behind at (getD form at 0))));
+        place = λ p. getD-padded 106 (length head ∷ groups) p ∙ go p;
       }
     where
       head : List (List Atom)
@@ -131,7 +132,7 @@ module _ (form arities : List ℕ) (same : (p : ℕ) → p < length arities → 
       groups = group (groupAt form arities (suc at)) ++ collect group head
 
       go : (p : ℕ) → getD (length head ∷ groups) p 0 ≡ only (countedInRule form at p) (getD form (at + p) 0)
-      go zero = spaced-length (groupAt form arities) 21 (getD form at 0) (at + 22) ∙ ap (λ (k : ℕ). getD form k 0) (omega arith)
+      go zero = length-spaced (groupAt form arities) 21 (getD form at 0) (at + 22) ∙ ap (λ (k : ℕ). getD form k 0) (omega arith)
       go (suc p) =
           let split : p ≡ (p / 21) * 21 + p % 21 = omega arith in
           let place : suc at + ((p / 21) * 21 + p % 21) ≡ at + suc p = omega arith in
@@ -151,7 +152,7 @@ module _ (form : List ℕ) (w : WellFormed (decoded form)) where
   rules-length =
       let few = rules-few form w in
       let l = rows-length form ruleRow (ruleAt form (aritiesOf form)) 106 (countedInRule form) (getD form 1 0) 2 rules-laid in
-      padded-length 6784 (collect ruleRow (spaced (ruleAt form (aritiesOf form)) 106 (getD form 1 0) 2)) (omega arith)
+      length-padded 6784 (collect ruleRow (spaced (ruleAt form (aritiesOf form)) 106 (getD form 1 0) 2)) (omega arith)
 
   rules-place : (p : ℕ) → getD rules p 0 ≡ only (ltb (p / 106) (getD form 1 0) && countedInRule form (2 + (p / 106) * 106) (p % 106)) (getD form (suc (suc p)) 0)
   unfolding rules
@@ -159,15 +160,15 @@ module _ (form : List ℕ) (w : WellFormed (decoded form)) where
       let rows : List ℕ = collect ruleRow (spaced (ruleAt form (aritiesOf form)) 106 (getD form 1 0) 2) in
       let split : p ≡ (p / 106) * 106 + p % 106 = omega arith in
       let place : 2 + ((p / 106) * 106 + p % 106) ≡ suc (suc p) = omega arith in
-      padded-place 6784 rows p ∙ ap (λ (k : ℕ). getD rows k 0) split ∙
+      getD-padded 6784 rows p ∙ ap (λ (k : ℕ). getD rows k 0) split ∙
       rows-place form ruleRow (ruleAt form (aritiesOf form)) 106 (countedInRule form) (getD form 1 0) 2 (p / 106) (p % 106) rules-laid (omega arith) ∙
       ap (λ (k : ℕ). only (ltb (p / 106) (getD form 1 0) && countedInRule form (2 + (p / 106) * 106) (p % 106)) (getD form k 0)) place
 
   -- The form of what a form holds, place by place (document 01: the same book in its counted places, the others 0).
   pub counted-places : (p : ℕ) → getD (encoded (decoded form)) p 0 ≡ elim (counted form p) [ true ↦ getD form p 0 | false ↦ 0 ]
   unfolding decoded encoded counted rules
-  counted-places zero = numbersFrom-length form aritiesPlace (getD form 0 0)
-  counted-places (suc zero) = spaced-length (ruleAt form (aritiesOf form)) 106 (getD form 1 0) 2
+  counted-places zero = length-numbersFrom form aritiesPlace (getD form 0 0)
+  counted-places (suc zero) = length-spaced (ruleAt form (aritiesOf form)) 106 (getD form 1 0) 2
   counted-places (suc (suc p)) = go (case (ltb p 6784))
     where
       go : (ltb p 6784 ≡ true) ⊎ (ltb p 6784 ≡ false) → getD (encoded (decoded form)) (suc (suc p)) 0 ≡ only (counted form (suc (suc p))) (getD form (suc (suc p)) 0)
@@ -179,7 +180,7 @@ module _ (form : List ℕ) (w : WellFormed (decoded form)) where
           let h = ltb-false p 6784 e in
           let split : p ≡ length rules + (p - 6784) = omega (arith, rules-length) in
           let place : 6786 + (p - 6784) ≡ suc (suc p) = omega arith in
-          ap (λ (k : ℕ). getD (rules ++ padded 64 (aritiesOf form)) k 0) split ∙ getD-append-add rules (padded 64 (aritiesOf form)) (p - 6784) 0 ∙ padded-place 64 (aritiesOf form) (p - 6784) ∙
+          ap (λ (k : ℕ). getD (rules ++ padded 64 (aritiesOf form)) k 0) split ∙ getD-append-add rules (padded 64 (aritiesOf form)) (p - 6784) 0 ∙ getD-padded 64 (aritiesOf form) (p - 6784) ∙
           numbersFrom-place form aritiesPlace (getD form 0 0) (p - 6784) ∙
           ap₂ (λ (t : Bool) (k : ℕ). only t (getD form k 0)) (sym (counted-arities form p h)) place
 

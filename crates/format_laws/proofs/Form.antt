@@ -3,23 +3,20 @@
 use mathlib.Core.Path.{_≡_, refl, sym, ap, ap₂, _∙_, subst}
 use mathlib.Core.List.{List, [], _∷_, _++_, append-assoc, List·Memᴰ, List·Memᴰ·head, List·Memᴰ·tail, List·Memᴰ·not-nil, List·Memᴰ·cases-cons}
 use mathlib.Core.Logic.{⊎-elim}
-use Prim.Native.Nat.{ℕ, zero, suc, _+_, _-_, _≤_}
+use Prim.Native.Nat.{ℕ, zero, suc, _+_, _-_}
 use native.Mathlib.Omega.{arith}
 use native.Mathlib.Numerals.{add-one}
-use lib.ListN.{length, getD, drop, replicate, length-append, length-replicate}
+use lib.ListN.{length, getD, drop, replicate, length-append}
 use lib.Seq.{drop-at}
 use Rattle.model.specs.Lists.{collect, padded, numbersFrom}
 use Rattle.model.specs.Rules.{Atom, Rule, RuleSet}
 use Rattle.model.specs.WellFormed.{WellFormedAtom, WellFormedAtoms, WellFormedRule, WellFormed}
 use Rattle.model.specs.Form.{formLength, aritiesPlace, atomRow, group, ruleRow, encoded, spaced, atomAt, groupAt, ruleAt, decoded}
+use Rattle.laws.proofs.Places.{length-padded, length-numbersFrom}
 use Rattle.format_laws.proofs.Lists.{length-collect}
 use Rattle.format_laws.proofs.Parsers.{drop-past, drop-place}
 use Rattle.format_laws.proofs.Format.{ShapedAtom, ShapedAtoms, ShapedRule, Shaped}
 use Rattle.format_laws.proofs.Bytes.{arity-at-most}
-
-padded-length : (n : ℕ) (xs : List ℕ) → length xs ≤ n → length (padded n xs) ≡ n
-unfolding padded
-padded-length n xs h = omega (arith, length-append xs (replicate (n - length xs) 0), length-replicate {A = ℕ} (n - length xs) 0)
 
 -- what is padded stands in front
 padded-front : (n : ℕ) (xs rest : List ℕ) {ys : List ℕ} → ys ≡ padded n xs ++ rest → ys ≡ xs ++ (replicate (n - length xs) 0 ++ rest)
@@ -56,14 +53,14 @@ module _ {b : RuleSet} (w : WellFormed b) where
   atomRow-length {a} h =
       let l = arity-at-most w (a .predicate) (h .declared) in
       let e = h .arity in
-      padded-length 5 (a .predicate ∷ a .variables) (omega arith)
+      length-padded 5 (a .predicate ∷ a .variables) (omega arith)
 
   group-length : {as' : List Atom} → WellFormedAtoms (b .arities) as' → length (group as') ≡ 21
   unfolding group
   group-length {as'} h =
       let l = length-collect atomRow 5 as' (λ a m. atomRow-length (h .each a m)) in
       let f = h .few in
-      padded-length 21 (length as' ∷ collect atomRow as') (omega arith)
+      length-padded 21 (length as' ∷ collect atomRow as') (omega arith)
 
   ruleRow-length : {r : Rule} → WellFormedRule (b .arities) r → length (ruleRow r) ≡ 106
   unfolding ruleRow
@@ -71,18 +68,18 @@ module _ {b : RuleSet} (w : WellFormed b) where
       let l = length-collect group 21 (r .head) (λ d m. group-length (h .each d m)) in
       let k = group-length (h .body) in
       let f = h .few in
-      padded-length 106 (length (r .head) ∷ (group (r .body) ++ collect group (r .head))) (omega (arith, length-append (group (r .body)) (collect group (r .head))))
+      length-padded 106 (length (r .head) ∷ (group (r .body) ++ collect group (r .head))) (omega (arith, length-append (group (r .body)) (collect group (r .head))))
 
   rules-length : length (padded 6784 (collect ruleRow (b .rules))) ≡ 6784
   rules-length =
       let l = length-collect ruleRow 106 (b .rules) (λ r m. ruleRow-length (w .rules r m)) in
       let s = w .short in
-      padded-length 6784 (collect ruleRow (b .rules)) (omega arith)
+      length-padded 6784 (collect ruleRow (b .rules)) (omega arith)
 
   pub encoded-length : length (encoded b) ≡ formLength
   unfolding encoded
   encoded-length =
-      omega (arith, rules-length, padded-length 64 (b .arities) (w .few), length-append (padded 6784 (collect ruleRow (b .rules))) (padded 64 (b .arities)))
+      omega (arith, rules-length, length-padded 64 (b .arities) (w .few), length-append (padded 6784 (collect ruleRow (b .rules))) (padded 64 (b .arities)))
 
   -- each part is read at its place
 
@@ -155,11 +152,6 @@ module _ {b : RuleSet} (w : WellFormed b) where
 
 -- the shape of what a form holds
 
-numbersFrom-length : (xs : List ℕ) (at n : ℕ) → length (numbersFrom xs at n) ≡ n
-unfolding numbersFrom
-numbersFrom-length xs at zero = refl
-numbersFrom-length xs at (suc n) = ap suc (numbersFrom-length xs (suc at) n)
-
 spaced-each : {A : Type 0} (P : A → Type 0) (f : ℕ → A) (width n at : ℕ) → ((at : ℕ) → P (f at)) → (x : A) → List·Memᴰ x (spaced f width n at) → P x
 unfolding spaced
 spaced-each P f width zero at h x m = absurd (List·Memᴰ·not-nil m)
@@ -170,7 +162,7 @@ spaced-each P f width (suc n) at h x m =
 module _ (form arities : List ℕ) where
   atomAt-shaped : (at : ℕ) → ShapedAtom arities (atomAt form arities at)
   unfolding atomAt
-  atomAt-shaped at = numbersFrom-length form (suc at) (getD arities (getD form at 0) 0)
+  atomAt-shaped at = length-numbersFrom form (suc at) (getD arities (getD form at 0) 0)
 
   groupAt-shaped : (at : ℕ) → ShapedAtoms arities (groupAt form arities at)
   unfolding groupAt

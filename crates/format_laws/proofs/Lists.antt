@@ -1,17 +1,12 @@
--- Elements by their places, and how long a collected list is by the lengths of its parts. Assumes nothing.
+-- How long a collected list is by the lengths of its parts. Assumes nothing.
 use mathlib.Core.Path.{_≡_, refl, sym}
 use mathlib.Core.List.{List, [], _∷_, List·Memᴰ, List·Memᴰ·head, List·Memᴰ·tail}
-use Prim.Native.Nat.{ℕ, zero, suc, _*_, _≤_, _<_}
+use Prim.Native.Nat.{ℕ, _*_, _≤_}
 use native.Mathlib.Omega.{arith}
 use native.Mathlib.Nat.{zero-mul, suc-mul}
-use lib.ListN.{length, getD, length-append}
+use lib.ListN.{length, length-append}
 use Rattle.model.specs.Lists.{collect}
-
-module _ {A : Type 0} where
-  pub getD-mem : (xs : List A) (n : ℕ) (d : A) → n < length xs → List·Memᴰ (getD xs n d) xs
-  getD-mem [] n d h = absurd (omega arith)
-  getD-mem (x ∷ xs) zero d h = List·Memᴰ·head refl
-  getD-mem (x ∷ xs) (suc n) d h = List·Memᴰ·tail (getD-mem xs n d (omega arith))
+pub use Rattle.laws.proofs.Lists.{getD-mem}
 
 module _ {A : Type 0} (f : A → List ℕ) (k : ℕ) where
   pub length-collect-le : (xs : List A) → ((x : A) → List·Memᴰ x xs → length (f x) ≤ k) → length (collect f xs) ≤ length xs * k

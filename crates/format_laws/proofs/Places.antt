@@ -1,41 +1,22 @@
--- Numbers by their places: in padded lists, in what is read from a place on, in rows of one width, and in a form. Assumes nothing.
-use mathlib.Core.Path.{_≡_, refl, ap, _∙_}
+-- Numbers by their places: in what is read from a place on, in rows of one width, and in a form. Assumes nothing.
+use mathlib.Core.Path.{_≡_, ap, _∙_}
 use mathlib.Core.Bool.{Bool, true, false, _&&_}
-use mathlib.Core.List.{List, [], _∷_, _++_, List·Memᴰ, List·Memᴰ·head, List·Memᴰ·tail}
+use mathlib.Core.List.{List, List·Memᴰ, List·Memᴰ·head, List·Memᴰ·tail}
 use Prim.Native.Nat.{ℕ, zero, suc, _+_, _-_, _*_, _/_, _%_, _≤_, _<_}
 use native.Mathlib.Omega.{arith}
 use native.Mathlib.Nat.{suc-mul}
 use lib.Dec.{ltb, leb·zero, leb·suc-zero, leb·suc-suc}
-use lib.ListN.{length, getD, replicate, length-append, length-replicate}
+use lib.ListN.{length, getD}
 use borrow.Author.Tests.{lt-ltb, le-ltb}
-use Rattle.model.specs.Lists.{padded, numbersFrom}
+use Rattle.model.specs.Lists.{numbersFrom}
 use Rattle.model.specs.WellFormed.{WellFormedAtom, WellFormedAtoms, WellFormedRule, WellFormed}
 use Rattle.model.specs.Form.{aritiesPlace, spaced, atomAt, groupAt, ruleAt, decoded, countedInRule, counted}
+use Rattle.laws.proofs.Places.{length-numbersFrom, length-spaced}
 use Rattle.format_laws.proofs.Bytes.{arity-at-most}
 
 -- a number where a test passes, 0 where it fails
 abbrev pub only : Bool → ℕ → ℕ
 only t n = elim t [ true ↦ n | false ↦ 0 ]
-
--- numbers by their places; a place that a list lacks reads as 0
-
-zeros-place : (n p : ℕ) → _≡_ {A = ℕ} (getD (replicate n 0) p 0) 0
-zeros-place zero p = refl
-zeros-place (suc n) zero = refl
-zeros-place (suc n) (suc p) = zeros-place n p
-
-pub padded-place : (n : ℕ) (xs : List ℕ) (p : ℕ) → getD (padded n xs) p 0 ≡ getD xs p 0
-unfolding padded
-padded-place n xs p = go xs p (n - length xs)
-  where
-    go : (xs : List ℕ) (p k : ℕ) → getD (xs ++ replicate k 0) p 0 ≡ getD xs p 0
-    go [] p k = zeros-place k p
-    go (x ∷ xs) zero k = refl
-    go (x ∷ xs) (suc p) k = go xs p k
-
-pub padded-length : (n : ℕ) (xs : List ℕ) → length xs ≤ n → length (padded n xs) ≡ n
-unfolding padded
-padded-length n xs h = omega (arith, length-append xs (replicate (n - length xs) 0), length-replicate {A = ℕ} (n - length xs) 0)
 
 pub numbersFrom-place : (xs : List ℕ) (at n p : ℕ) → getD (numbersFrom xs at n) p 0 ≡ only (ltb p n) (getD xs (at + p) 0)
 unfolding numbersFrom
@@ -44,17 +25,7 @@ numbersFrom-place xs at (suc n) zero = rw (leb·suc-suc 0 n, leb·zero n) (ap (�
 numbersFrom-place xs at (suc n) (suc p) =
     rw (leb·suc-suc (suc p) n) (numbersFrom-place xs (suc at) n p ∙ ap (λ (k : ℕ). only (ltb p n) (getD xs k 0)) (omega arith))
 
-pub numbersFrom-length : (xs : List ℕ) (at n : ℕ) → length (numbersFrom xs at n) ≡ n
-unfolding numbersFrom
-numbersFrom-length xs at zero = refl
-numbersFrom-length xs at (suc n) = ap suc (numbersFrom-length xs (suc at) n)
-
 module _ {A : Type 0} (f : ℕ → A) (width : ℕ) where
-  pub spaced-length : (n at : ℕ) → length (spaced f width n at) ≡ n
-  unfolding spaced
-  spaced-length zero at = refl
-  spaced-length (suc n) at = ap suc (spaced-length n (at + width))
-
   pub spaced-mem : (n at i : ℕ) → i < n → List·Memᴰ (f (at + i * width)) (spaced f width n at)
   unfolding spaced
   spaced-mem zero at i h = absurd (omega arith)
@@ -79,7 +50,7 @@ module _ (form arities : List ℕ) (at : ℕ) where
   module _ (w : WellFormedAtoms arities (groupAt form arities at)) where
     pub atoms-few : getD form at 0 ≤ 4
     unfolding groupAt
-    atoms-few = let few = w .few in omega (arith, spaced-length (atomAt form arities) 5 (getD form at 0) (suc at))
+    atoms-few = let few = w .few in omega (arith, length-spaced (atomAt form arities) 5 (getD form at 0) (suc at))
 
     pub atom-well-formed : (k : ℕ) → k < getD form at 0 → WellFormedAtom arities (atomAt form arities (suc at + k * 5))
     unfolding groupAt
@@ -88,7 +59,7 @@ module _ (form arities : List ℕ) (at : ℕ) where
   module _ (w : WellFormedRule arities (ruleAt form arities at)) where
     pub disjuncts-few : getD form at 0 ≤ 4
     unfolding ruleAt
-    disjuncts-few = let few = w .few in omega (arith, spaced-length (groupAt form arities) 21 (getD form at 0) (at + 22))
+    disjuncts-few = let few = w .few in omega (arith, length-spaced (groupAt form arities) 21 (getD form at 0) (at + 22))
 
     -- the body is group 0
     pub group-well-formed : (k : ℕ) → k ≤ getD form at 0 → WellFormedAtoms arities (groupAt form arities (suc at + k * 21))
@@ -104,11 +75,11 @@ aritiesOf form = numbersFrom form aritiesPlace (getD form 0 0)
 module _ (form : List ℕ) (w : WellFormed (decoded form)) where
   pub arities-few : getD form 0 0 ≤ 64
   unfolding decoded
-  arities-few = let few = w .few in omega (arith, numbersFrom-length form aritiesPlace (getD form 0 0))
+  arities-few = let few = w .few in omega (arith, length-numbersFrom form aritiesPlace (getD form 0 0))
 
   pub rules-few : getD form 1 0 ≤ 64
   unfolding decoded
-  rules-few = let few = w .short in omega (arith, spaced-length (ruleAt form (aritiesOf form)) 106 (getD form 1 0) 2)
+  rules-few = let few = w .short in omega (arith, length-spaced (ruleAt form (aritiesOf form)) 106 (getD form 1 0) 2)
 
   pub rule-well-formed : (k : ℕ) → k < getD form 1 0 → WellFormedRule (aritiesOf form) (ruleAt form (aritiesOf form) (2 + k * 106))
   unfolding decoded
@@ -117,7 +88,7 @@ module _ (form : List ℕ) (w : WellFormed (decoded form)) where
   pub arities-same : (p : ℕ) → p < length (aritiesOf form) → getD (aritiesOf form) p 0 ≡ getD form (aritiesPlace + p) 0
   arities-same p h =
       numbersFrom-place form aritiesPlace (getD form 0 0) p ∙
-      ap (λ (t : Bool). only t (getD form (aritiesPlace + p) 0)) (lt-ltb p (getD form 0 0) (omega (arith, numbersFrom-length form aritiesPlace (getD form 0 0))))
+      ap (λ (t : Bool). only t (getD form (aritiesPlace + p) 0)) (lt-ltb p (getD form 0 0) (omega (arith, length-numbersFrom form aritiesPlace (getD form 0 0))))
 
   pub arities-low : (p : ℕ) → p < length (aritiesOf form) → getD (aritiesOf form) p 0 ≤ 4
   unfolding decoded

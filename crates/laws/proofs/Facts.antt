@@ -1,15 +1,14 @@
 -- Laws of facts: the test of equality is one, and a fact is present where it is a member. Assumes nothing.
-use mathlib.Core.Path.{_≡_, refl, ap, ap₂}
-use mathlib.Core.Bool.{Bool, true, false, _&&_}
-use mathlib.Core.List.{List, [], _∷_, List·Memᴰ}
-use Prim.Native.Nat.{ℕ}
+use mathlib.Core.Path.{_≡_, refl, ap₂}
+use mathlib.Core.Bool.{true, false}
+use mathlib.Core.List.{List, [], _∷_, List·Memᴰ, _++_, append-nil}
 use lib.Dec.{eqb}
 use borrow.Author.Tests.{eqb-true, eq-eqb}
-use Rattle.model.specs.Lists.{any, collect}
+use Rattle.model.specs.Lists.{collect}
 use Rattle.model.specs.Term.{Term, same}
 use Rattle.model.specs.Triggers.{Fact, sameAll, sameFact, present, termsOf}
 use Rattle.laws.proofs.Bools.{and-true, true-and, not-both}
-use Rattle.laws.proofs.Lists.{Decides, mem-eq-any, any-eq-mem, mem-collect, collect-mem}
+use Rattle.laws.proofs.Lists.{Decides, mem-eq-any, any-eq-mem, mem-collect, collect-mem, collect-append}
 use Rattle.laws.proofs.Terms.{same-decides}
 
 pub sameAll-decides : Decides sameAll
@@ -59,3 +58,11 @@ mem-termsOf m k = mem-collect (λ (f : Fact). f .arguments) m k
 pub termsOf-mem : {t : Term} (fs : List Fact) → List·Memᴰ t (termsOf fs) → (f : Fact) × List·Memᴰ f fs × List·Memᴰ t (f .arguments)
 unfolding termsOf
 termsOf-mem fs m = collect-mem (λ (f : Fact). f .arguments) fs m
+
+pub termsOf-append : (xs ys : List Fact) → termsOf (xs ++ ys) ≡ termsOf xs ++ termsOf ys
+unfolding termsOf
+termsOf-append xs ys = collect-append (λ (f : Fact). f .arguments) xs ys
+
+pub termsOf-one : (f : Fact) → termsOf (f ∷ []) ≡ f .arguments
+unfolding termsOf collect
+termsOf-one f = append-nil (f .arguments)

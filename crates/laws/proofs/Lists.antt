@@ -1,7 +1,7 @@
 -- Laws of the list functions that the definitions share: which elements they have, in which order, and that none comes twice.
 -- Assumes nothing.
-use mathlib.Core.Path.{_≡_, refl, sym, ap, _∙_, subst}
-use mathlib.Core.Bool.{Bool, true, false, _&&_, _||_}
+use mathlib.Core.Path.{_≡_, refl, sym, ap, _∙_, subst, ap₂}
+use mathlib.Core.Bool.{Bool, true, false, _||_, or-assoc}
 use mathlib.Core.List.{List, [], _∷_, _++_, map, append-assoc, List·Memᴰ, List·Memᴰ·head, List·Memᴰ·tail, List·Memᴰ·cases-cons, List·Memᴰ·append-cases, List·Memᴰ·not-nil, Memᴰ·append-left, Memᴰ·append-right, Memᴰ·cast, List·Memᴰ·eq-of-singleton}
 use mathlib.Core.Logic.{_⊎_, inl, inr, ⊎-elim}
 use Prim.Native.Nat.{ℕ, zero, suc, _+_, _≤_, _<_}
@@ -10,7 +10,7 @@ use lib.Dec.{eqb}
 use lib.ListN.{length, getD, length-append}
 use borrow.Author.Tests.{eqb-true, eq-eqb}
 use Rattle.model.specs.Lists.{all, any, keep, extend, index, collect, member}
-use Rattle.laws.proofs.Bools.{case, not-both, and-true, true-and, or-true, or-left, or-right, or-false, is-false}
+use Rattle.laws.proofs.Bools.{case, not-both, and-true, true-and, or-true, or-left, or-right, is-false}
 
 module _ {ℓ} {A : Type ℓ} where
   -- `any`, `all` and `keep` by elements
@@ -75,6 +75,59 @@ module _ {ℓ} {A : Type ℓ} where
       go : (List·Memᴰ x (keep p ys) → List·Memᴰ x ys × (p x ≡ true)) → (p y ≡ true) ⊎ (p y ≡ false) → List·Memᴰ x (y ∷ ys) × (p x ≡ true)
       go below (inl e) = first e (List·Memᴰ·cases-cons (rw (keep-yes p y ys e) at m)) below
       go below (inr e) = let (i, j) = below (rw (keep-no p y ys e) at m) in (List·Memᴰ·tail i, j)
+
+  pub length-keep : (p : A → Bool) (xs : List A) → length (keep p xs) ≤ length xs
+  unfolding keep
+  length-keep p [] = omega arith
+  length-keep p (x ∷ xs) = go (length-keep p xs) (case (p x))
+    where
+      go : length (keep p xs) ≤ length xs → (p x ≡ true) ⊎ (p x ≡ false) → length (keep p (x ∷ xs)) ≤ length (x ∷ xs)
+      go h (inl e) = rw (keep-yes p x xs e) (omega arith)
+      go h (inr e) = rw (keep-no p x xs e) (omega arith)
+
+  -- tests that agree on the elements
+
+  pub any-agree : (p q : A → Bool) (xs : List A) → ((x : A) → List·Memᴰ x xs → p x ≡ q x) → any p xs ≡ any q xs
+  unfolding any
+  any-agree p q [] h = refl
+  any-agree p q (x ∷ xs) h = ap₂ (λ (a b : Bool). a || b) (h x (List·Memᴰ·head refl)) (any-agree p q xs (λ y m. h y (List·Memᴰ·tail m)))
+
+  pub keep-agree : (p q : A → Bool) (xs : List A) → ((x : A) → List·Memᴰ x xs → p x ≡ q x) → keep p xs ≡ keep q xs
+  unfolding keep
+  keep-agree p q [] h = refl
+  keep-agree p q (x ∷ xs) h = go (keep-agree p q xs (λ y m. h y (List·Memᴰ·tail m))) (h x (List·Memᴰ·head refl)) (case (q x))
+    where
+      go : keep p xs ≡ keep q xs → p x ≡ q x → (q x ≡ true) ⊎ (q x ≡ false) → keep p (x ∷ xs) ≡ keep q (x ∷ xs)
+      go below e (inl t) = keep-yes p x xs (e ∙ t) ∙ ap (λ (ys : List A). x ∷ ys) below ∙ sym (keep-yes q x xs t)
+      go below e (inr f) = keep-no p x xs (e ∙ f) ∙ below ∙ sym (keep-no q x xs f)
+
+  -- tests of two lists one after the other
+
+  pub any-append : (p : A → Bool) (xs ys : List A) → any p (xs ++ ys) ≡ any p xs || any p ys
+  unfolding any
+  any-append p [] ys = refl
+  any-append p (x ∷ xs) ys = ap (λ (b : Bool). p x || b) (any-append p xs ys) ∙ sym (or-assoc (p x) (any p xs) (any p ys))
+
+  pub keep-append : (p : A → Bool) (xs ys : List A) → keep p (xs ++ ys) ≡ keep p xs ++ keep p ys
+  unfolding keep
+  keep-append p [] ys = refl
+  keep-append p (x ∷ xs) ys = go (keep-append p xs ys) (case (p x))
+    where
+      go : keep p (xs ++ ys) ≡ keep p xs ++ keep p ys → (p x ≡ true) ⊎ (p x ≡ false) → keep p (x ∷ (xs ++ ys)) ≡ keep p (x ∷ xs) ++ keep p ys
+      go below (inl e) =
+          keep-yes p x (xs ++ ys) e ∙ ap (λ (l : List A). x ∷ l) below ∙ ap (λ (l : List A). l ++ keep p ys) (sym (keep-yes p x xs e))
+      go below (inr e) = keep-no p x (xs ++ ys) e ∙ below ∙ ap (λ (l : List A). l ++ keep p ys) (sym (keep-no p x xs e))
+
+  -- elements by their places
+
+  pub getD-mem : (xs : List A) (n : ℕ) (d : A) → n < length xs → List·Memᴰ (getD xs n d) xs
+  getD-mem [] n d h = absurd (omega arith)
+  getD-mem (x ∷ xs) zero d h = List·Memᴰ·head refl
+  getD-mem (x ∷ xs) (suc n) d h = List·Memᴰ·tail (getD-mem xs n d (omega arith))
+
+  pub mem-length : {x : A} {xs : List A} → List·Memᴰ x xs → 1 ≤ length xs
+  mem-length (List·Memᴰ·head e) = omega arith
+  mem-length (List·Memᴰ·tail m) = omega arith
 
 module _ {ℓ ℓ′} {A : Type ℓ} {B : Type ℓ′} where
   -- `collect` and `map` by elements
@@ -252,3 +305,14 @@ module _ {ℓ} {A : Type ℓ} where
         go below (inl e) k = rw (index-here x y ys e) (omega arith, sym (dec .sound x y e))
         go below (inr e) (inl k) = not-both (eq x y) (subst (λ (w : A). eq x w ≡ true) k (dec .complete x)) e
         go below (inr e) (inr k) = rw (index-there x y ys e) (let h = below k in (omega arith, h .1))
+
+    -- an element of the first part has its index there
+    pub index-append : (x : A) (xs ys : List A) → List·Memᴰ x xs → index eq x (xs ++ ys) ≡ index eq x xs
+    index-append x [] ys m = absurd (List·Memᴰ·not-nil m)
+    index-append x (z ∷ zs) ys m = go (λ k. index-append x zs ys k) (case (eq x z)) (List·Memᴰ·cases-cons m)
+      where
+        go : (List·Memᴰ x zs → index eq x (zs ++ ys) ≡ index eq x zs) → (eq x z ≡ true) ⊎ (eq x z ≡ false) → (x ≡ z) ⊎ List·Memᴰ x zs
+            → index eq x (z ∷ (zs ++ ys)) ≡ index eq x (z ∷ zs)
+        go below (inl e) k = index-here x z (zs ++ ys) e ∙ sym (index-here x z zs e)
+        go below (inr e) (inl k) = not-both (eq x z) (subst (λ (w : A). eq x w ≡ true) k (dec .complete x)) e
+        go below (inr e) (inr k) = index-there x z (zs ++ ys) e ∙ ap suc (below k) ∙ sym (index-there x z zs e)

@@ -1,22 +1,20 @@
 -- Laws of a rule's variables and of the numbered entries. Assumes nothing.
-use mathlib.Core.Path.{_≡_, refl, sym, ap, _∙_, subst}
+use mathlib.Core.Path.{_≡_, refl, sym, ap, subst}
 use mathlib.Core.Bool.{Bool, true, false, _&&_, not}
 use mathlib.Core.Logic.{_⊎_, inl, inr, ⊎-elim}
 use mathlib.Core.List.{List, [], _∷_, List·Memᴰ, List·Memᴰ·head, List·Memᴰ·tail, List·Memᴰ·not-nil, List·Memᴰ·cases-cons}
 use Prim.Native.Nat.{ℕ, zero, suc, _+_, _≤_, _<_}
 use native.Mathlib.Omega.{arith}
-use lib.Dec.{eqb}
 use lib.ListN.{length}
 use native.Mathlib.Decide.{decLt}
 use borrow.Author.Tests.{not-true}
-use Rattle.model.specs.Lists.{all, any, keep, collect, member}
-use Rattle.model.specs.Rules.{Atom, Rule, RuleSet, Disjunct, Entry, names, variablesOf, inBody, universal, frontier, existential, repeated, detached, disjunctsFrom, countSkolem, entriesFrom, entries}
-use Rattle.model.specs.WellFormed.{WellFormedAtom, WellFormedAtoms, WellFormedRule, WellFormed}
-use Rattle.laws.proofs.Bools.{and-true, true-and, case, not-both}
-use Rattle.laws.proofs.Lists.{keep-yes, keep-no, mem-keep, keep-mem, mem-member, member-mem, mem-any, any-mem, any-false, mem-collect, collect-mem, Distinct, none, one}
+use Rattle.model.specs.Lists.{any, keep, member}
+use Rattle.model.specs.Rules.{Atom, Rule, RuleSet, Disjunct, Entry, names, variablesOf, inBody, universal, frontier, existential, disjunctsFrom, countSkolem, entriesFrom, entries}
+use Rattle.laws.proofs.Bools.{and-true, true-and, case}
+use Rattle.laws.proofs.Lists.{keep-yes, keep-no, mem-keep, keep-mem, mem-member, member-mem, mem-any, mem-collect, collect-mem, Distinct, none, one, length-keep}
 
 -- n numbers from one on
-rising : ℕ → ℕ → List ℕ
+unfoldable pub rising : ℕ → ℕ → List ℕ
 rising k zero = []
 rising k (suc n) = k ∷ rising (suc k) n
 
@@ -25,6 +23,12 @@ unfolding rising
 rising-above k zero v m = absurd (List·Memᴰ·not-nil m)
 rising-above k (suc n) v m =
     ⊎-elim (λ (e : v ≡ k). omega arith) (λ (i : List·Memᴰ v (rising (suc k) n)). let h = rising-above (suc k) n v i in omega arith) (List·Memᴰ·cases-cons m)
+
+rising-below : (k n : ℕ) {v : ℕ} → List·Memᴰ v (rising k n) → v < k + n
+unfolding rising
+rising-below k zero m = absurd (List·Memᴰ·not-nil m)
+rising-below k (suc n) {v} m =
+    ⊎-elim (λ (e : v ≡ k). omega arith) (λ (i : List·Memᴰ v (rising (suc k) n)). let h = rising-below (suc k) n i in omega arith) (List·Memᴰ·cases-cons m)
 
 rising-distinct : (k n : ℕ) → Distinct (rising k n)
 unfolding rising
@@ -45,6 +49,10 @@ mem-rising k (suc n) v h l = go (λ i. mem-rising (suc k) n v i (omega arith)) (
 pub mem-names : (v : ℕ) → v ≤ 7 → List·Memᴰ v names
 unfolding rising
 mem-names v h = mem-rising 0 8 v (omega arith) (omega arith)
+
+pub names-mem : {v : ℕ} → List·Memᴰ v names → v ≤ 7
+unfolding rising
+names-mem m = let h = rising-below 0 8 m in omega arith
 
 pub names-distinct : Distinct names
 unfolding rising
@@ -110,6 +118,10 @@ pub frontier-distinct : (r : Rule) → Distinct (frontier r)
 unfolding frontier
 frontier-distinct r = keep-distinct (λ (v : ℕ). inBody r v && inHead r v) names-distinct
 
+pub frontier-few : (r : Rule) → length (frontier r) ≤ 8
+unfolding frontier
+frontier-few r = length-keep (λ (v : ℕ). inBody r v && inHead r v) names
+
 pub existential-mem : (r : Rule) (d : List Atom) {v : ℕ} → List·Memᴰ v (existential r d) → List·Memᴰ v (variablesOf d) × (inBody r v ≡ false)
 unfolding existential
 existential-mem r d {v} m =
@@ -126,6 +138,10 @@ mem-existential r d {v} h m e =
 pub existential-distinct : (r : Rule) (d : List Atom) → Distinct (existential r d)
 unfolding existential
 existential-distinct r d = keep-distinct (λ (v : ℕ). member v (variablesOf d) && not (inBody r v)) names-distinct
+
+pub existential-few : (r : Rule) (d : List Atom) → length (existential r d) ≤ 8
+unfolding existential
+existential-few r d = length-keep (λ (v : ℕ). member v (variablesOf d) && not (inBody r v)) names
 
 -- entries and their disjuncts come from the rules
 
@@ -163,3 +179,32 @@ entriesFrom-mem n (r ∷ rs) {e} m = go (λ k. entriesFrom-mem (n + countSkolem 
 pub entries-mem : (b : RuleSet) {e : Entry} → List·Memᴰ e (entries b) → Entered (b .rules) e
 unfolding entries
 entries-mem b m = entriesFrom-mem 0 (b .rules) m
+
+-- an entry for each rule, and in it a disjunct for each of the rule's
+
+pub length-disjunctsFrom : (n : ℕ) (r : Rule) (ds : List (List Atom)) → length (disjunctsFrom n r ds) ≡ length ds
+unfolding disjunctsFrom
+length-disjunctsFrom n r [] = refl
+length-disjunctsFrom n r (d ∷ ds) = ap suc (length-disjunctsFrom (n + length (existential r d)) r ds)
+
+pub length-entriesFrom : (n : ℕ) (rs : List Rule) → length (entriesFrom n rs) ≡ length rs
+unfolding entriesFrom
+length-entriesFrom n [] = refl
+length-entriesFrom n (r ∷ rs) = ap suc (length-entriesFrom (n + countSkolem r (r .head)) rs)
+
+entriesFrom-disjuncts : (n : ℕ) (rs : List Rule) {e : Entry} → List·Memᴰ e (entriesFrom n rs) → length (e .disjuncts) ≡ length (e .rule .head)
+unfolding entriesFrom
+entriesFrom-disjuncts n [] m = absurd (List·Memᴰ·not-nil m)
+entriesFrom-disjuncts n (r ∷ rs) {e} m = go (λ k. entriesFrom-disjuncts (n + countSkolem r (r .head)) rs k) (List·Memᴰ·cases-cons m)
+  where
+    first : Entry
+    first = record { rule = r; disjuncts = disjunctsFrom n r (r .head) }
+
+    go : (List·Memᴰ e (entriesFrom (n + countSkolem r (r .head)) rs) → length (e .disjuncts) ≡ length (e .rule .head))
+        → (e ≡ first) ⊎ List·Memᴰ e (entriesFrom (n + countSkolem r (r .head)) rs) → length (e .disjuncts) ≡ length (e .rule .head)
+    go below (inl k) = subst (λ (x : Entry). length (x .disjuncts) ≡ length (x .rule .head)) (sym k) (length-disjunctsFrom n r (r .head))
+    go below (inr k) = below k
+
+pub length-disjuncts : (b : RuleSet) {e : Entry} → List·Memᴰ e (entries b) → length (e .disjuncts) ≡ length (e .rule .head)
+unfolding entries
+length-disjuncts b m = entriesFrom-disjuncts 0 (b .rules) m

@@ -1,13 +1,12 @@
--- Laws of terms: the test of equality is one, and lists of terms in their two forms agree. Assumes nothing.
+-- Laws of terms: the test of equality is one, and lists of terms in their two forms agree, and numbers stay. Assumes nothing.
 use mathlib.Core.Path.{_≡_, refl, ap}
 use mathlib.Core.Bool.{Bool, true, false}
-use mathlib.Core.List.{List, [], _∷_, List·Memᴰ}
-use Prim.Native.Nat.{ℕ}
+use mathlib.Core.List.{List, [], _∷_, List·Memᴰ, _++_}
 use native.Mathlib.Decide.{ℕ-discrete}
-use Rattle.model.specs.Lists.{extend}
 use Rattle.model.specs.Term.{Position-discrete, Term, Terms, none, more, Term-discrete, same, list, terms}
+use Rattle.model.specs.Tables.{number}
 use Rattle.laws.proofs.Bools.{not-both}
-use Rattle.laws.proofs.Lists.{Decides, Distinct, none as distinct-none, extend-distinct, extend-right, extend-mem}
+use Rattle.laws.proofs.Lists.{Decides, index-append}
 
 pub same-decides : Decides same
 unfolding same
@@ -34,3 +33,8 @@ pub terms-list : (ts : Terms) → terms (list ts) ≡ ts
 unfolding list terms
 terms-list none = refl
 terms-list (more t ts) = ap (more t) (terms-list ts)
+
+-- further terms leave the numbers of the first as they are
+pub number-append : (t : Term) (ts us : List Term) → List·Memᴰ t ts → number (ts ++ us) t ≡ number ts t
+unfolding number
+number-append t ts us m = index-append same same-decides t ts us m

@@ -38,7 +38,7 @@ triggersIn-mem : (s : Stage) (e : Entry) {m : List Term} → List·Memᴰ m (tri
 unfolding triggersIn
 triggersIn-mem s e k = triggers-mem (e .rule) (s .terms) (s .facts) k
 
-mem-triggersIn : (b : RuleSet) (n : ℕ) (e : Entry) (m : List Term) → Substitution (e .rule) m
+pub mem-triggersIn : (b : RuleSet) (n : ℕ) (e : Entry) (m : List Term) → Substitution (e .rule) m
     → Loaded (e .rule) (stage b n .facts) (assign (universal (e .rule)) m) → List·Memᴰ m (triggersIn (stage b n) e)
 unfolding triggersIn
 mem-triggersIn b n e m t l =

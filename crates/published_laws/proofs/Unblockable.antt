@@ -20,18 +20,19 @@ use Rattle.laws.proofs.Bools.{case, not-both, and-false, true-and, is-false}
 use Rattle.laws.proofs.Lists.{any-false, mem-all, mem-map, map-mem, collect-mem, extend-mem}
 use Rattle.laws.proofs.Terms.{list-terms}
 use Rattle.laws.proofs.Facts.{termsOf-mem}
-use Rattle.laws.proofs.Rules.{entries-mem, mem-variablesOf, variablesOf-mem, mem-inBody, mem-universal, universal-distinct, frontier-mem, existential-mem}
+use Rattle.laws.proofs.Rules.{entries-mem, mem-variablesOf, variablesOf-mem, mem-inBody, universal-distinct, frontier-mem, existential-mem}
 use Rattle.laws.proofs.Triggers.{assign-here, assign-there, assign-all, assign-mem, headTerm-existential, mem-headFacts}
+use Rattle.laws.proofs.WellFormed.{entry-well-formed, inBody-universal}
 use Rattle.stage_laws.proofs.Order.{frontier-shared}
 use Rattle.published_laws.proofs.Closure.{instantiate-argument}
 use Rattle.published_laws.proofs.Blocked.{apartly, blocked-sound}
 use Rattle.published_laws.proofs.Subterms.{Inside, inside-size, Rooted, rooted-inside, rooted-unique, Grounded, rename-root-rooted}
 use Rattle.published_laws.proofs.MadeBy.{instantiate-mem, Below, below-self, made-below}
-use Rattle.published_laws.proofs.Invention.{entry-well-formed, variable-range, closed-argument}
+use Rattle.published_laws.proofs.Invention.{closed-argument}
 
 -- `renamed`, variable by variable
 
-renamed-length : (vs : List ℕ) (m : List Term) → length m ≡ length vs → length (renamed vs m) ≡ length vs
+pub renamed-length : (vs : List ℕ) (m : List Term) → length m ≡ length vs → length (renamed vs m) ≡ length vs
 unfolding renamed
 renamed-length [] m e = refl
 renamed-length (v ∷ vs) [] e = absurd (omega arith)
@@ -55,7 +56,7 @@ renamed-value (u ∷ us) (t ∷ m) {v} e k = go (λ i. renamed-value us m (omega
 
 module _ {arities : List ℕ} (r : Rule) (wf : WellFormedRule arities r) (m : List Term) (sub : Substitution r m) where
   body-universal : {v : ℕ} → List·Memᴰ v (variablesOf (r .body)) → List·Memᴰ v (universal r)
-  body-universal k = mem-universal r (variable-range (wf .body) k) (mem-inBody r k)
+  body-universal k = inBody-universal wf (mem-inBody r k)
 
   apartly-rooted : ((t : Term) → List·Memᴰ t m → Grounded t) → {v : ℕ} → List·Memᴰ v (universal r) → Rooted v (apartly r m v)
   apartly-rooted g {v} k =

@@ -1,9 +1,9 @@
 -- Terms and facts as rows: a number finds its term again, and rows are equal where terms or facts are. Assumes nothing.
 use mathlib.Core.Path.{_≡_, refl, sym, ap, ap₂, _∙_, subst}
-use mathlib.Core.Bool.{Bool, true, false, _&&_}
-use mathlib.Core.Logic.{_⊎_, inl, inr, ⊎-elim}
-use mathlib.Core.List.{List, [], _∷_, _++_, map, List·Memᴰ, List·Memᴰ·head, List·Memᴰ·tail, List·Memᴰ·not-nil, List·Memᴰ·cases-cons, Memᴰ·cast}
-use Prim.Native.Nat.{ℕ, zero, suc, _+_, _-_, _≤_, _<_}
+use mathlib.Core.Bool.{Bool, true, false}
+use mathlib.Core.Logic.{_⊎_, inl, inr}
+use mathlib.Core.List.{List, [], _∷_, _++_, map, List·Memᴰ, List·Memᴰ·head, List·Memᴰ·tail}
+use Prim.Native.Nat.{ℕ, suc, _+_, _-_, _≤_, _<_}
 use native.Mathlib.Omega.{arith}
 use lib.Dec.{eqb}
 use lib.ListN.{length, getD, take, replicate, length-map}
@@ -14,16 +14,11 @@ use Rattle.model.specs.Term.{Position, Term, Terms, star, constant, apart, fres
 use Rattle.model.specs.Triggers.{Fact, sameFact}
 use Rattle.model.specs.Tables.{number, termRow, factRow}
 use Rattle.laws.proofs.Bools.{case, not-both, and-true, true-and}
-use Rattle.laws.proofs.Lists.{Decides, Distinct, none, one, index-here, index-there, index-mem}
-use Rattle.laws.proofs.Terms.{same-decides, terms-list}
+pub use Rattle.laws.proofs.Bools.{both-ways}
+use Rattle.laws.proofs.Lists.{Decides, index-mem}
+use Rattle.laws.proofs.Terms.{same-decides, terms-list, number-append}
 use Rattle.laws.proofs.Facts.{fact-path, sameFact-decides}
-use Rattle.rows.specs.Tables.{sameRow, stands, numberOf, Rows}
-
--- two tests that say the same
-pub both-ways : (a b : Bool) → (a ≡ true → b ≡ true) → (b ≡ true → a ≡ true) → a ≡ b
-both-ways true b f g = sym (f refl)
-both-ways false true f g = g refl
-both-ways false false f g = refl
+use Rattle.rows.specs.Tables.{sameRow, Rows}
 
 pub sameRow-decides : Decides sameRow
 unfolding sameRow
@@ -66,19 +61,6 @@ number-mem {t} {ts} m = index-mem same same-decides t ts star m
 
 pub number-injective : {s t : Term} {ts : List Term} → List·Memᴰ s ts → List·Memᴰ t ts → number ts s ≡ number ts t → s ≡ t
 number-injective {s} {t} {ts} m n e = sym (number-mem m .1) ∙ ap (λ (i : ℕ). getD ts i star) e ∙ number-mem n .1
-
--- further terms leave the numbers of the first as they are
-pub number-append : (t : Term) (ts us : List Term) → List·Memᴰ t ts → number (ts ++ us) t ≡ number ts t
-unfolding number
-number-append t [] us m = absurd (List·Memᴰ·not-nil m)
-number-append t (s ∷ ts) us m = go (λ k. number-append t ts us k) (case (same t s)) (List·Memᴰ·cases-cons m)
-  where
-    go : (List·Memᴰ t ts → index same t (ts ++ us) ≡ index same t ts) → (same t s ≡ true) ⊎ (same t s ≡ false) → (t ≡ s) ⊎ List·Memᴰ t ts
-        → index same t (s ∷ (ts ++ us)) ≡ index same t (s ∷ ts)
-    go below (inl e) k = index-here same same-decides t s (ts ++ us) e ∙ sym (index-here same same-decides t s ts e)
-    go below (inr e) (inl k) = not-both (same t s) (subst (λ (w : Term). same t w ≡ true) k (same-decides .complete t)) e
-    go below (inr e) (inr k) =
-        index-there same same-decides t s (ts ++ us) e ∙ ap suc (below k) ∙ sym (index-there same same-decides t s ts e)
 
 -- all of a list stand in another
 abbrev pub Within {ℓ} : {A : Type ℓ} → List A → List A → Type ℓ

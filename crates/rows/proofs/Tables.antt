@@ -1,6 +1,6 @@
 -- The law of a term table: no two rows with a Skolem function are equal, whatever the width and however many rows; a row without one is a
 -- constant, known by its position. Entering a row keeps it, and so does a constant behind the rows. Assumes nothing.
-use mathlib.Core.Path.{_≡_, refl, sym, ap, _∙_, subst}
+use mathlib.Core.Path.{_≡_, sym, ap, _∙_, subst}
 use mathlib.Core.Bool.{Bool, true, false, not}
 use mathlib.Core.Logic.{_⊎_, inl, inr}
 use mathlib.Core.List.{List, [], _∷_, _++_, append-nil, List·Memᴰ}
@@ -9,7 +9,7 @@ use lib.Dec.{eqb}
 use lib.ListN.{getD}
 use Rattle.model.specs.Lists.{any, keep, extend}
 use Rattle.laws.proofs.Bools.{case}
-use Rattle.laws.proofs.Lists.{Distinct, distinct-snoc, keep-yes, keep-no, keep-mem, any-eq-not-mem}
+use Rattle.laws.proofs.Lists.{Distinct, distinct-snoc, keep-yes, keep-no, keep-mem, any-eq-not-mem, keep-append}
 use Rattle.rows.specs.Tables.{sameRow, enter}
 use Rattle.rows.proofs.Encoding.{sameRow-decides}
 use Rattle.rows.proofs.Outputs.{extend-one-old, extend-one-new}
@@ -21,16 +21,6 @@ headed r = not (eqb (getD r 0 0) 0)
 -- no two rows with a Skolem function are equal
 abbrev pub Unrepeated : List (List ℕ) → Type 0
 Unrepeated rows = Distinct (keep headed rows)
-
-keep-append : (p : List ℕ → Bool) (xs ys : List (List ℕ)) → keep p (xs ++ ys) ≡ keep p xs ++ keep p ys
-unfolding keep
-keep-append p [] ys = refl
-keep-append p (x ∷ xs) ys = go (keep-append p xs ys) (case (p x))
-  where
-    go : keep p (xs ++ ys) ≡ keep p xs ++ keep p ys → (p x ≡ true) ⊎ (p x ≡ false) → keep p (x ∷ (xs ++ ys)) ≡ keep p (x ∷ xs) ++ keep p ys
-    go below (inl e) =
-        keep-yes p x (xs ++ ys) e ∙ ap (λ (l : List (List ℕ)). x ∷ l) below ∙ ap (λ (l : List (List ℕ)). l ++ keep p ys) (sym (keep-yes p x xs e))
-    go below (inr e) = keep-no p x (xs ++ ys) e ∙ below ∙ ap (λ (l : List (List ℕ)). l ++ keep p ys) (sym (keep-no p x xs e))
 
 -- a row without a Skolem function behind the rows
 pub unrepeated-constant : (rows : List (List ℕ)) (r : List ℕ) → headed r ≡ false → Unrepeated rows → Unrepeated (rows ++ (r ∷ []))

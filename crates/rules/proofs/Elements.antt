@@ -2,8 +2,8 @@
 -- Assumes nothing.
 use mathlib.Core.Path.{_≡_, refl, sym, ap, ap₂, _∙_, subst}
 use mathlib.Core.Bool.{Bool, true, false, _&&_, _||_, not}
-use mathlib.Core.Logic.{_⊎_, inl, inr, ⊎-elim}
-use mathlib.Core.List.{List, [], _∷_, _++_, List·Memᴰ, List·Memᴰ·head, List·Memᴰ·tail, List·Memᴰ·not-nil, List·Memᴰ·cases-cons}
+use mathlib.Core.Logic.{_⊎_, inl, inr}
+use mathlib.Core.List.{List, [], _∷_, List·Memᴰ, List·Memᴰ·head, List·Memᴰ·tail}
 use Prim.Native.Nat.{ℕ, zero, suc, _+_, _-_, _*_, _/_, _%_, _^_, _≤_, _<_}
 use native.Mathlib.Nat.{pow-suc}
 use native.Mathlib.Decide.{decLt}
@@ -19,12 +19,12 @@ use borrow.Author.Tests.{not-false, eq-eqb, ne-eqb}
 use Rattle.model.specs.Lists.{any, keep, collect, index, member}
 use Rattle.model.specs.Rules.{Atom, Rule, names, variablesOf, inBody, universal, frontier, existential, detached}
 use Rattle.laws.proofs.Bools.{case, not-both, is-false}
-use Rattle.laws.proofs.Lists.{any-mem, any-false, keep-yes, keep-no, mem-keep, keep-mem, member-mem, mem-member}
-use Rattle.laws.proofs.Rules.{mem-names, variablesOf-mem, mem-universal, mem-frontier}
+use Rattle.laws.proofs.Lists.{any-mem, any-false, keep-yes, keep-no, mem-keep, keep-mem, member-mem, mem-member, getD-mem, keep-agree, any-append}
+use Rattle.laws.proofs.Rules.{mem-names, variablesOf-mem, mem-universal, mem-frontier, names-mem, rising}
 use Rattle.model.specs.WellFormed.{WellFormedAtoms, WellFormedRule}
 use Rattle.rules.specs.Sets.{setOf, has, elements, LastOf}
 use Rattle.model.specs.Form.{spaced}
-use Rattle.rules.proofs.Lists.{spaced-more, getD-mem}
+use Rattle.rules.proofs.Lists.{spaced-more}
 use Rattle.rules.proofs.Sets.{setOf-collect-more, has-setOf, has-and, has-zero, has-complement}
 
 -- a set is known by its elements
@@ -48,38 +48,6 @@ same-elements (suc k) a b h i e =
 
 -- elements by a test
 
-pub keep-agree : (p q : ℕ → Bool) (xs : List ℕ) → ((x : ℕ) → List·Memᴰ x xs → p x ≡ q x) → keep p xs ≡ keep q xs
-unfolding keep
-keep-agree p q [] h = refl
-keep-agree p q (x ∷ xs) h = go (keep-agree p q xs (λ y m. h y (List·Memᴰ·tail m))) (h x (List·Memᴰ·head refl)) (case (q x))
-  where
-    go : keep p xs ≡ keep q xs → p x ≡ q x → (q x ≡ true) ⊎ (q x ≡ false) → keep p (x ∷ xs) ≡ keep q (x ∷ xs)
-    go below e (inl t) = keep-yes p x xs (e ∙ t) ∙ ap (λ (ys : List ℕ). x ∷ ys) below ∙ sym (keep-yes q x xs t)
-    go below e (inr f) = keep-no p x xs (e ∙ f) ∙ below ∙ sym (keep-no q x xs f)
-
-unfoldable rising : ℕ → ℕ → List ℕ
-rising s zero = []
-rising s (suc k) = s ∷ rising (suc s) k
-
-rising-range : (s k : ℕ) {v : ℕ} → List·Memᴰ v (rising s k) → v < s + k
-unfolding rising
-rising-range s zero m = absurd (List·Memᴰ·not-nil m)
-rising-range s (suc k) {v} m =
-    ⊎-elim (λ (e : v ≡ s). omega arith) (λ (i : List·Memᴰ v (rising (suc s) k)). let h = rising-range (suc s) k i in omega arith) (List·Memᴰ·cases-cons m)
-
-names-range : {v : ℕ} → List·Memᴰ v names → v < 8
-unfolding rising
-names-range m = rising-range 0 8 m
-
-pub length-keep : (p : ℕ → Bool) (xs : List ℕ) → length (keep p xs) ≤ length xs
-unfolding keep
-length-keep p [] = omega arith
-length-keep p (x ∷ xs) = go (length-keep p xs) (case (p x))
-  where
-    go : length (keep p xs) ≤ length xs → (p x ≡ true) ⊎ (p x ≡ false) → length (keep p (x ∷ xs)) ≤ suc (length xs)
-    go h (inl t) = omega (arith, ap length (keep-yes p x xs t))
-    go h (inr f) = omega (arith, ap length (keep-no p x xs f))
-
 pub member-keep : (p : ℕ → Bool) (v : ℕ) → v ≤ 7 → member v (keep p names) ≡ p v
 member-keep p v h = go (case (p v))
   where
@@ -91,7 +59,7 @@ pub elements-setOf : (p : ℕ → Bool) → elements (setOf (keep p names)) ≡ 
 unfolding elements
 elements-setOf p =
     keep-agree (has (setOf (keep p names))) p names
-    (λ v m. let h = names-range m in has-setOf (keep p names) v ∙ member-keep p v (omega arith))
+    (λ v m. let h = names-mem m in has-setOf (keep p names) v ∙ member-keep p v (omega arith))
 
 pub setOf-below : (k : ℕ) (vs : List ℕ) → ((v : ℕ) → List·Memᴰ v vs → v < k) → setOf vs < 2 ^ k
 unfolding setOf
@@ -100,7 +68,7 @@ setOf-below k (v ∷ vs) h =
     or-lt k (2 ^ v) (setOf vs) (pow-lt (h v (List·Memᴰ·head refl))) (setOf-below k vs (λ w m. h w (List·Memᴰ·tail m)))
 
 pub keep-below : (p : ℕ → Bool) → setOf (keep p names) < 256
-keep-below p = setOf-below 8 (keep p names) (λ v m. names-range (keep-mem p names m .0))
+keep-below p = setOf-below 8 (keep p names) (λ v m. let h = names-mem (keep-mem p names m .0) in omega arith)
 
 -- a set with the elements that pass a test
 pub set-of-test : (x : ℕ) (p : ℕ → Bool) → x < 256 → ((v : ℕ) → v ≤ 7 → has x v ≡ p v) → x ≡ setOf (keep p names)
@@ -186,15 +154,6 @@ rank-index x v h t =
 
 -- a rule's sets
 
-any-append : (p : ℕ → Bool) (xs ys : List ℕ) → any p (xs ++ ys) ≡ any p xs || any p ys
-unfolding any
-any-append p [] ys = refl
-any-append p (x ∷ xs) ys = go (p x) (any-append p xs ys)
-  where
-    go : (b : Bool) → any p (xs ++ ys) ≡ any p xs || any p ys → b || any p (xs ++ ys) ≡ (b || any p xs) || any p ys
-    go true e = refl
-    go false e = e
-
 member-collect : (v : ℕ) (ds : List (List Atom)) → member v (collect variablesOf ds) ≡ any (λ (d : List Atom). member v (variablesOf d)) ds
 unfolding member collect any
 member-collect v [] = refl
@@ -273,7 +232,7 @@ atoms-more f k at s t e h =
 pub existential-range : (r : Rule) (d : List Atom) (v : ℕ) → member v (existential r d) ≡ true → v < 8
 unfolding existential
 existential-range r d v h =
-    names-range (keep-mem (λ (v : ℕ). member v (variablesOf d) && not (inBody r v)) names (member-mem v (existential r d) h) .0)
+    let l = names-mem (keep-mem (λ (v : ℕ). member v (variablesOf d) && not (inBody r v)) names (member-mem v (existential r d) h) .0) in omega arith
 
 pub index-most : (v : ℕ) (xs : List ℕ) → index eqb v xs ≤ length xs
 unfolding index
@@ -306,7 +265,7 @@ last-left vs h k w m =
 
 pub frontier-range : (r : Rule) (v : ℕ) → List·Memᴰ v (frontier r) → v < 8
 unfolding frontier
-frontier-range r v m = names-range (keep-mem (λ (v : ℕ). inBody r v && any (λ (d : List Atom). member v (variablesOf d)) (r .head)) names m .0)
+frontier-range r v m = let h = names-mem (keep-mem (λ (v : ℕ). inBody r v && any (λ (d : List Atom). member v (variablesOf d)) (r .head)) names m .0) in omega arith
 
 -- a well-formed rule has a frontier
 pub frontier-some : (arities : List ℕ) (r : Rule) → WellFormedRule arities r → (v : ℕ) × List·Memᴰ v (frontier r)

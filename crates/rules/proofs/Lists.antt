@@ -1,6 +1,6 @@
--- Laws of lists that are read number by number and row by row, and of rows that are filled from the front. Assumes nothing.
+-- Laws of lists that are read row by row, and of rows that are filled from the front. Assumes nothing.
 use mathlib.Core.Path.{_≡_, refl, sym, ap, _∙_}
-use mathlib.Core.List.{List, [], _∷_, _++_, map, append-assoc, List·Memᴰ, List·Memᴰ·head, List·Memᴰ·tail}
+use mathlib.Core.List.{List, [], _∷_, _++_, map, append-assoc}
 use mathlib.Core.Bool.{Bool, true, false, _||_}
 use Prim.Native.Nat.{ℕ, zero, suc, _+_, _-_, _*_, _≤_, _<_}
 use native.Mathlib.Omega.{arith}
@@ -8,44 +8,15 @@ use native.Mathlib.Nat.{zero-mul, suc-mul}
 use native.Mathlib.Numerals.{add-one}
 use lib.ListN.{length, getD, set, drop, replicate, length-append, length-replicate, drop-of-length-le}
 use lib.Seq.{set-at, drop-cons}
-use Rattle.model.specs.Lists.{any, numbersFrom, padded}
+use Rattle.model.specs.Lists.{any, padded}
 use Rattle.model.specs.Form.{spaced}
 use Rattle.laws.proofs.Bools.{or-left}
+pub use Rattle.laws.proofs.Lists.{getD-mem}
+pub use Rattle.laws.proofs.Places.{length-numbersFrom, getD-numbersFrom}
 use Rattle.rules.specs.Places.{filled}
 
-pub length-numbersFrom : (xs : List ℕ) (at n : ℕ) → length (numbersFrom xs at n) ≡ n
-unfolding numbersFrom
-length-numbersFrom xs at zero = refl
-length-numbersFrom xs at (suc n) = ap suc (length-numbersFrom xs (suc at) n)
-
-pub getD-numbersFrom : (xs : List ℕ) (at n i : ℕ) → i < n → getD (numbersFrom xs at n) i 0 ≡ getD xs (at + i) 0
-unfolding numbersFrom
-getD-numbersFrom xs at zero i h = absurd (omega arith)
-getD-numbersFrom xs at (suc n) zero h = let e : at ≡ at + 0 = omega arith in ap (λ (p : ℕ). getD xs p 0) e
-getD-numbersFrom xs at (suc n) (suc i) h =
-    let e : suc at + i ≡ at + suc i = omega arith in
-    getD-numbersFrom xs (suc at) n i (omega arith) ∙ ap (λ (p : ℕ). getD xs p 0) e
-
--- one number more
-pub numbersFrom-more : (xs : List ℕ) (at n : ℕ) → numbersFrom xs at (suc n) ≡ numbersFrom xs at n ++ (getD xs (at + n) 0 ∷ [])
-unfolding numbersFrom
-numbersFrom-more xs at zero = let e : at ≡ at + 0 = omega arith in ap (λ (p : ℕ). getD xs p 0 ∷ []) e
-numbersFrom-more xs at (suc n) =
-    let e : suc at + n ≡ at + suc n = omega arith in
-    ap (λ (ys : List ℕ). getD xs at 0 ∷ ys) (numbersFrom-more xs (suc at) n ∙ ap (λ (p : ℕ). numbersFrom xs (suc at) n ++ (getD xs p 0 ∷ [])) e)
-
 module _ {A : Type 0} where
-  pub getD-mem : (xs : List A) (n : ℕ) (d : A) → n < length xs → List·Memᴰ (getD xs n d) xs
-  getD-mem [] n d h = absurd (omega arith)
-  getD-mem (x ∷ xs) zero d h = List·Memᴰ·head refl
-  getD-mem (x ∷ xs) (suc n) d h = List·Memᴰ·tail (getD-mem xs n d (omega arith))
-
   module _ (f : ℕ → A) (width : ℕ) where
-    pub length-spaced : (n at : ℕ) → length (spaced f width n at) ≡ n
-    unfolding spaced
-    length-spaced zero at = refl
-    length-spaced (suc n) at = ap suc (length-spaced n (at + width))
-
     pub getD-spaced : (n at i : ℕ) (d : A) → i < n → getD (spaced f width n at) i d ≡ f (at + i * width)
     unfolding spaced
     getD-spaced zero at i d h = absurd (omega arith)

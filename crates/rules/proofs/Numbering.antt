@@ -1,7 +1,6 @@
 -- The numbering of Skolem functions by places is that of model's `entries`, and a function belongs to the disjunct of the last place that
 -- fewer are numbered before. Assumes nothing.
 use mathlib.Core.Path.{_≡_, refl, sym, ap, ap₂, _∙_}
-use mathlib.Core.Bool.{_&&_, not}
 use mathlib.Core.List.{List, [], _∷_, _++_, append-assoc}
 use Prim.Native.Nat.{ℕ, zero, suc, _+_, _*_, _/_, _%_, _≤_, _<_}
 use native.Mathlib.Decide.{decLt}
@@ -13,14 +12,15 @@ use lib.Seq.{set-at, drop-cons}
 use lib.ListN.{List·getD-append, List·getD-eq-default}
 use borrow.Author.Tests.{lt-ltb}
 use Rattle.model.specs.Lists.{any, keep, collect, member}
-use Rattle.model.specs.Rules.{Atom, Rule, Disjunct, Entry, names, variablesOf, inBody, existential, disjunctsFrom, countSkolem, entriesFrom, entries, owns}
+use Rattle.model.specs.Rules.{Atom, Rule, Disjunct, Entry, variablesOf, existential, disjunctsFrom, countSkolem, entriesFrom, entries, owns}
 use Rattle.model.specs.Form.{spaced, decoded}
 use Rattle.laws.proofs.Bools.{true-and}
+use Rattle.laws.proofs.Places.{length-spaced}
+use Rattle.laws.proofs.Rules.{existential-few, length-disjunctsFrom, length-entriesFrom}
 use Rattle.rules.specs.Places.{Held, rulesOf, ruleOf, disjunctOf}
 use Rattle.rules.specs.Functions.{places, functionsAt, functionsBefore, numbering, entryOf, numberedOf, Numbered, Owned}
-use Rattle.rules.proofs.Lists.{length-spaced, getD-spaced, spaced-more}
+use Rattle.rules.proofs.Lists.{getD-spaced, spaced-more}
 use Rattle.rules.proofs.Places.{few-disjuncts}
-use Rattle.rules.proofs.Elements.{length-keep}
 
 -- sums
 
@@ -50,27 +50,13 @@ total-add c m (suc n) =
     let e : m + suc n ≡ suc (m + n) = omega arith in
     ap (total c) e ∙ omega (arith, total-add c m n)
 
--- the existential variables of a disjunct are few, and an empty disjunct has none
-
-pub few-existential : (r : Rule) (d : List Atom) → length (existential r d) ≤ 8
-unfolding existential
-few-existential r d = length-keep (λ (v : ℕ). member v (variablesOf d) && not (inBody r v)) names
+-- an empty disjunct has no existential variables
 
 no-existential : (r : Rule) → length (existential r []) ≡ 0
 unfolding existential variablesOf collect member any keep
 no-existential r = refl
 
 -- entries by their places
-
-pub length-disjunctsFrom : (n : ℕ) (r : Rule) (ds : List (List Atom)) → length (disjunctsFrom n r ds) ≡ length ds
-unfolding disjunctsFrom
-length-disjunctsFrom n r [] = refl
-length-disjunctsFrom n r (d ∷ ds) = ap suc (length-disjunctsFrom (n + length (existential r d)) r ds)
-
-pub length-entriesFrom : (n : ℕ) (rs : List Rule) → length (entriesFrom n rs) ≡ length rs
-unfolding entriesFrom
-length-entriesFrom n [] = refl
-length-entriesFrom n (r ∷ rs) = ap suc (length-entriesFrom (n + countSkolem r (r .head)) rs)
 
 sizes : Rule → List (List Atom) → ℕ → ℕ
 sizes r ds k = length (existential r (getD ds k []))
@@ -121,7 +107,7 @@ module _ (form : List ℕ) where
 
   pub few-functions : (j : ℕ) → functionsAt form j ≤ 8
   unfolding functionsAt
-  few-functions j = few-existential (ruleOf form (j / 4)) (disjunctOf form (j / 4) (j % 4))
+  few-functions j = existential-few (ruleOf form (j / 4)) (disjunctOf form (j / 4) (j % 4))
 
   pub no-function : (j : ℕ) → length (ruleOf form (j / 4) .head) ≤ j % 4 → functionsAt form j ≡ 0
   unfolding functionsAt disjunctOf

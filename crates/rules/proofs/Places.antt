@@ -8,8 +8,10 @@ use Rattle.model.specs.Lists.{numbersFrom}
 use Rattle.model.specs.Rules.{Atom, Rule}
 use Rattle.model.specs.WellFormed.{WellFormedAtom, WellFormedAtoms, WellFormedRule}
 use Rattle.model.specs.Form.{spaced, decoded, atomAt, groupAt, ruleAt}
+use Rattle.laws.proofs.Lists.{getD-mem}
+use Rattle.laws.proofs.Places.{length-numbersFrom, getD-numbersFrom, length-spaced}
 use Rattle.rules.specs.Places.{Held, aritiesOf, rulesOf, ruleOf, disjunctOf, atomOf, groupOf, AtomPlace, GroupPlace}
-use Rattle.rules.proofs.Lists.{length-numbersFrom, getD-numbersFrom, getD-mem, length-spaced, getD-spaced}
+use Rattle.rules.proofs.Lists.{getD-spaced}
 
 abbrev pub rulePlace : ℕ → ℕ
 rulePlace i = 2 + i * 106

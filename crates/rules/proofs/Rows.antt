@@ -8,8 +8,9 @@ use lib.ListN.{length, getD, set, replicate}
 use Rattle.model.specs.Lists.{numbersFrom}
 use Rattle.model.specs.Rules.{Atom}
 use Rattle.model.specs.Form.{spaced, atomRow}
+use Rattle.laws.proofs.Places.{length-numbersFrom, numbersFrom-more, length-spaced}
 use Rattle.rules.specs.Places.{aritiesOf, rulesOf, ruleOf, atomOf, groupOf, filled, noRow, atomRows, headRows, atomArities}
-use Rattle.rules.proofs.Lists.{length-numbersFrom, numbersFrom-more, length-spaced, spaced-more, filled-more, padded-filled, map-spaced}
+use Rattle.rules.proofs.Lists.{spaced-more, filled-more, padded-filled, map-spaced}
 use Rattle.rules.proofs.Places.{atoms-place, variables-place, predicate-place, head-place, rulePlace}
 
 -- the row of an atom

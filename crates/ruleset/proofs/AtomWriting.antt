@@ -7,14 +7,12 @@ use lib.ListN.{length, getD}
 use Rattle.model.specs.Lists.{numbersFrom, collect}
 use Rattle.model.specs.Format.{Parsed, good, andThen, many, byte, variable, atom, atoms, atomBytes, atomsBytes}
 use Rattle.model.specs.Form.{spaced, atomAt, groupAt}
+use Rattle.laws.proofs.Places.{getD-numbersFrom, length-numbersFrom, length-spaced}
 use Rattle.ruleset.specs.Sets.{setOf}
 use Rattle.ruleset.specs.Step.{value, atomSet, atomsSet}
 use Rattle.ruleset.specs.Writes.{Writes, Took, Ends}
 use Rattle.ruleset.specs.declared.Step.{Step}
 use Rattle.ruleset.specs.declared.Step.the-variants.{Good, Bad}
-use Rattle.format_laws.proofs.Places.{numbersFrom-length}
-use Rattle.ruleset.proofs.Places.{numbers-at}
-use Rattle.ruleset.proofs.Spelling.{spaced-length}
 use Rattle.ruleset.proofs.Writing.{writes-refused, writes-then, writes-map, writes-as}
 
 module _ (form : List ℕ) (n at i v : ℕ) (before mid : List ℕ) (r : Step) where
@@ -31,7 +29,7 @@ module _ (form : List ℕ) (n at i v : ℕ) (before mid : List ℕ) (r : Step) w
 
     module _ (h : Writes value (λ bs. byte bs 0 (n - 1) 7 i) i (v ∷ []) before r mid) where
       first : Writes value (λ bs. byte bs 0 (length arities - 1) 7 i) i (v ∷ []) before r mid
-      first = rw (numbersFrom-length form 6786 n) h
+      first = rw (length-numbersFrom form 6786 n) h
 
       pub atom-refused : (m p : ℕ) (after : List ℕ) → r ≡ Bad m p → Writes atomSet (λ bs. atom bs arities i) i (atomBytes (atomAt form arities at)) before r after
       unfolding atom
@@ -52,7 +50,7 @@ module _ (form : List ℕ) (n at i v : ℕ) (before mid : List ℕ) (r : Step) w
           fits =
               let same : p ≡ v = t .same p j e in
               let most : v ≤ n - 1 = t .most p j e in
-              z ∙ ap (λ (x : ℕ). getD form (6786 + x) 0) same ∙ sym (numbers-at form 6786 n v (omega arith))
+              z ∙ ap (λ (x : ℕ). getD form (6786 + x) 0) same ∙ sym (getD-numbersFrom form 6786 n v (omega arith))
 
           rest : (a : ℕ) → a ≡ v
               → Writes atomSet (λ bs. andThen (many (getD arities a 0) (variable bs) j) (λ vs k. good (record { predicate = a; variables = vs }) k)) j (numbersFrom form (at + 1) arity) mid s after
@@ -66,7 +64,7 @@ module _ (form : List ℕ) (n at i v : ℕ) (before mid : List ℕ) (r : Step) w
 module _ {A : Type 0} (keep : List A → ℕ) (p : List ℕ → ℕ → Parsed A) (at : ℕ → A) (spell : A → List ℕ) (w place low high refusal i v : ℕ) (before mid : List ℕ) (r : Step)
     (h : Writes value (λ bs. byte bs low high refusal i) i (v ∷ []) before r mid) where
   counted-spelled : (v ∷ []) ++ collect spell (spaced at w v place) ≡ length (spaced at w v place) ∷ collect spell (spaced at w v place)
-  counted-spelled = ap (λ (x : ℕ). x ∷ collect spell (spaced at w v place)) (sym (spaced-length at w v place))
+  counted-spelled = ap (λ (x : ℕ). x ∷ collect spell (spaced at w v place)) (sym (length-spaced at w v place))
 
   pub counted-refused : (m q : ℕ) (after : List ℕ) → r ≡ Bad m q
       → Writes keep (λ bs. andThen (byte bs low high refusal i) (λ n j. many n (p bs) j)) i (length (spaced at w v place) ∷ collect spell (spaced at w v place)) before r after

@@ -7,11 +7,11 @@ use Rattle.model.specs.Lists.{numbersFrom, collect}
 use Rattle.model.specs.Rules.{Rule, RuleSet}
 use Rattle.model.specs.Format.{Parsed, good, andThen, many, byte, rule, ruleBytes, content}
 use Rattle.model.specs.Form.{spaced, ruleAt, decoded}
+use Rattle.laws.proofs.Places.{length-numbersFrom}
 use Rattle.ruleset.specs.Step.{value, none, parsedRules}
 use Rattle.ruleset.specs.Writes.{Writes, Took, parsedContent, rulesBytes, rulesAt}
 use Rattle.ruleset.specs.declared.Step.{Step}
 use Rattle.ruleset.specs.declared.Step.the-variants.{Good, Bad}
-use Rattle.format_laws.proofs.Places.{numbersFrom-length}
 use Rattle.ruleset.proofs.Writing.{writes-refused, writes-then, writes-exact, writes-map, writes-as, spelled-numbers}
 use Rattle.ruleset.proofs.AtomWriting.{counted-refused, counted-written}
 
@@ -47,7 +47,7 @@ module _ (form : List ℕ) (v : ℕ) (here : v ≡ getD form 0 0) (before mid : 
   content-spelled : (1 ∷ []) ++ ((v ∷ []) ++ listed) ≡ content (decoded form)
   unfolding content decoded rulesBytes rulesAt
   content-spelled =
-      let l : length arities ≡ v = numbersFrom-length form 6786 v in
+      let l : length arities ≡ v = length-numbersFrom form 6786 v in
       let s : (1 ∷ []) ++ ((v ∷ []) ++ listed) ≡ 1 ∷ length arities ∷ listed = rw l in
       s ∙ rw here
 
@@ -101,6 +101,6 @@ module _ (form : List ℕ) (v : ℕ) (here : v ≡ getD form 0 0) (before mid : 
       content-written u k s after g f =
           past-count s after
           (writes-exact none none (λ bs. many v (byte bs 1 4 4) j) _ j arities (rulesBytes (rulesAt form arities)) mid2 r3 mid3 third u k s after g arities
-          (λ bs rest a d p. spelled-numbers 1 4 4 v bs arities rest a j k (numbersFrom-length form 6786 v) d p)
+          (λ bs rest a d p. spelled-numbers 1 4 4 v bs arities rest a j k (length-numbersFrom form 6786 v) d p)
           (writes-map (λ (rs : List Rule). record { arities = arities; rules = rs }) none none (λ bs. parsedRules bs arities k) k _ mid3 s after (λ rs. refl)
           (subst (λ (x : ℕ). Writes none (λ bs. parsedRules bs (numbersFrom form 6786 x) k) k (rulesBytes (rulesAt form (numbersFrom form 6786 x))) mid3 s after) same f)))

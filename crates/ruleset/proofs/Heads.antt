@@ -1,21 +1,21 @@
 -- A rule's variables as sets: which are existential, repeated in two disjuncts, or absent from one (document 01, refusals 8 and 9).
 -- Assumes nothing.
 use mathlib.Core.Path.{_≡_, refl, sym, ap, _∙_}
-use mathlib.Core.Bool.{Bool, true, false, _&&_, _||_, not}
+use mathlib.Core.Bool.{Bool, true, false, _&&_, _||_, not, or-false}
 use mathlib.Core.Logic.{_⊎_, inl, inr}
 use mathlib.Core.List.{List, [], _∷_, _++_, List·Memᴰ}
 use Prim.Native.Nat.{ℕ, _-_, _≤_, _<_}
 use native.Mathlib.Decide.{decLt}
 use native.Mathlib.Omega.{arith}
-use lib.Dec.{eqb, leb}
+use lib.Dec.{eqb}
 use lib.Bits.{bitOr, bitAnd, or-add-and, and-le-l, and-le-r}
-use borrow.Author.Tests.{eq-eqb, ne-eqb, leb-true, not-true}
-use Rattle.model.specs.Lists.{all, any, member}
+use borrow.Author.Tests.{eq-eqb, ne-eqb, not-true}
+use Rattle.model.specs.Lists.{any, member}
 use Rattle.model.specs.Rules.{Atom, Rule, variablesOf, names, inBody, existential, repeated, detached}
 use Rattle.model.specs.Format.{Parsed, good, bad, sound}
-use Rattle.laws.proofs.Bools.{case, not-both, and-true, true-and, is-false}
-use Rattle.laws.proofs.Lists.{any-mem, mem-any, all-mem, keep-mem, member-mem, mem-member}
-use Rattle.laws.proofs.Rules.{existential-mem, mem-existential}
+use Rattle.laws.proofs.Bools.{case, not-both, and-true, true-and, both-ways}
+use Rattle.laws.proofs.Lists.{any-mem, mem-any, keep-mem, member-mem, mem-member, any-append}
+use Rattle.laws.proofs.Rules.{existential-mem, mem-existential, names-mem}
 use Rattle.ruleset.specs.Sets.{has}
 use Rattle.ruleset.specs.Step.{atomsSet}
 use Rattle.ruleset.specs.Heads.{lacking, faultBy, faultOf, fault}
@@ -23,26 +23,9 @@ use Rattle.ruleset.proofs.Sets.{has-or, has-and, has-zero, has-setOf, e
 
 -- tests that hold together
 
-pub same-test : (a b : Bool) → (a ≡ true → b ≡ true) → (b ≡ true → a ≡ true) → a ≡ b
-same-test true b f g = sym (f refl)
-same-test false b f g = sym (is-false b (λ h. not-both false (g h) refl))
-
-pub any-append : {A : Type 0} (p : A → Bool) (xs ys : List A) → any p (xs ++ ys) ≡ any p xs || any p ys
-unfolding any
-any-append p [] ys = refl
-any-append p (x ∷ xs) ys = go (p x) (any-append p xs ys)
-  where
-    go : (a : Bool) → any p (xs ++ ys) ≡ any p xs || any p ys → a || any p (xs ++ ys) ≡ (a || any p xs) || any p ys
-    go true e = refl
-    go false e = e
-
-or-none : (a : Bool) → a || false ≡ a
-or-none true = refl
-or-none false = refl
-
 pub any-snoc : {A : Type 0} (p : A → Bool) (xs : List A) (y : A) → any p (xs ++ (y ∷ [])) ≡ any p xs || p y
 unfolding any
-any-snoc p xs y = any-append p xs (y ∷ []) ∙ ap (λ (b : Bool). any p xs || b) (or-none (p y))
+any-snoc p xs y = any-append p xs (y ∷ []) ∙ ap (λ (b : Bool). any p xs || b) (or-false (p y))
 
 pub or-empty : (x y : ℕ) → eqb (bitOr x y) 0 ≡ eqb x 0 && eqb y 0
 or-empty x y = go (decLt 0 x) (decLt 0 y)
@@ -68,13 +51,9 @@ lacking-empty x = go (case (eqb x 0))
     go (inl e) = rw (e, lacking)
     go (inr e) = rw (e, lacking)
 
-names-small : (v : ℕ) → List·Memᴰ v names → v ≤ 7
-unfolding all
-names-small v m = leb-true v 7 (all-mem (λ (x : ℕ). leb x 7) refl m)
-
 existential-small : (r : Rule) (d : List Atom) (v : ℕ) → List·Memᴰ v (existential r d) → v ≤ 7
 unfolding existential
-existential-small r d v m = names-small v (keep-mem (λ (v : ℕ). member v (variablesOf d) && not (inBody r v)) names m .0)
+existential-small r d v m = names-mem (keep-mem (λ (v : ℕ). member v (variablesOf d) && not (inBody r v)) names m .0)
 
 -- a rule's body and a disjunct, by their sets
 
@@ -88,7 +67,7 @@ module _ (r : Rule) (body : ℕ) (b : body ≡ atomsSet (r .body)) where
     has-disjunct v = ap (λ (x : ℕ). has x v) (sym s) ∙ has-setOf (variablesOf d) v
 
     pub has-existential : body < 256 → (v : ℕ) → has (bitAnd set (255 - body)) v ≡ member v (existential r d)
-    has-existential h v = same-test _ _ there back
+    has-existential h v = both-ways _ _ there back
       where
         absent : v < 8 → has (255 - body) v ≡ true → inBody r v ≡ false
         absent l e = sym (has-body v) ∙ not-true (has body v) (sym (has-complement 8 body v h l) ∙ e)
@@ -168,9 +147,9 @@ module _ (r : Rule) where
 
   pub repeated-snoc : (ds : List (List Atom)) (e : List Atom) → repeated r (ds ++ (e ∷ [])) ≡ repeated r ds || any (elsewhere ds) (existential r e)
   unfolding repeated
-  repeated-snoc [] e = or-none (any (elsewhere []) (existential r e))
+  repeated-snoc [] e = or-false (any (elsewhere []) (existential r e))
   repeated-snoc (d ∷ ds) e =
-      let symmetric : meets d e ≡ meets e d = same-test (meets d e) (meets e d) (meets-back d e) (meets-back e d) in
+      let symmetric : meets d e ≡ meets e d = both-ways (meets d e) (meets e d) (meets-back d e) (meets-back e d) in
       rw (elsewhere-snoc ds d e, repeated-snoc ds e, elsewhere-cons ds d e, symmetric)
       (shuffle (any (elsewhere ds) (existential r d)) (meets e d) (repeated r ds) (any (elsewhere ds) (existential r e)))
 

@@ -1,26 +1,20 @@
 -- Numbers of a form by their places. Assumes nothing.
-use mathlib.Core.Path.{_≡_, refl, ap, _∙_}
+use mathlib.Core.Path.{_≡_}
 use mathlib.Core.List.{List}
-use Prim.Native.Nat.{ℕ, zero, suc, _+_, _≤_, _<_}
+use Prim.Native.Nat.{ℕ, _+_, _≤_, _<_}
 use native.Mathlib.Omega.{arith}
 use native.Mathlib.Decide.{decLt}
-use lib.ListN.{length, getD, List·getD-eq-default}
-use Rattle.format_laws.proofs.Places.{numbersFrom-length}
+use lib.ListN.{getD, List·getD-eq-default}
 use Rattle.model.specs.Lists.{numbersFrom}
-
-pub numbers-at : (xs : List ℕ) (at n p : ℕ) → p < n → getD (numbersFrom xs at n) p 0 ≡ getD xs (at + p) 0
-unfolding numbersFrom
-numbers-at xs at zero p h = absurd (omega arith)
-numbers-at xs at (suc n) zero h = let e : at + 0 ≡ at = omega arith in rw e
-numbers-at xs at (suc n) (suc p) h = let e : suc at + p ≡ at + suc p = omega arith in numbers-at xs (suc at) n p (omega arith) ∙ ap (λ (k : ℕ). getD xs k 0) e
+use Rattle.laws.proofs.Places.{getD-numbersFrom, length-numbersFrom}
 
 pub numbers-small : (xs : List ℕ) (at n m : ℕ) → ((p : ℕ) → p < n → getD xs (at + p) 0 ≤ m) → (p : ℕ) → getD (numbersFrom xs at n) p 0 ≤ m
 numbers-small xs at n m f p = go (decLt p n)
   where
     go : Dec (p < n) → getD (numbersFrom xs at n) p 0 ≤ m
-    go (yes h) = let e = numbers-at xs at n p h in let l = f p h in omega arith
+    go (yes h) = let e = getD-numbersFrom xs at n p h in let l = f p h in omega arith
     go (no h) =
-        let l = numbersFrom-length xs at n in
+        let l = length-numbersFrom xs at n in
         let e : getD (numbersFrom xs at n) p 0 ≡ 0 = List·getD-eq-default (numbersFrom xs at n) 0 (omega arith) in
         omega arith
 

@@ -8,6 +8,7 @@ use Rattle.model.specs.Lists.{collect}
 use Rattle.model.specs.Rules.{Atom, Rule}
 use Rattle.model.specs.Format.{Parsed, bad, andThen, many, byte, atoms, sound, rule, atomsBytes, ruleBytes}
 use Rattle.model.specs.Form.{spaced, groupAt, ruleAt}
+use Rattle.laws.proofs.Places.{length-spaced}
 use Rattle.ruleset.specs.Step.{value, none, atomsSet}
 use Rattle.ruleset.specs.Heads.{fault}
 use Rattle.ruleset.specs.Writes.{Agree, Written, Writes, Took}
@@ -15,7 +16,6 @@ use Rattle.ruleset.specs.declared.Step.{Step}
 use Rattle.ruleset.specs.declared.Step.the-variants.{Good, Bad}
 use Rattle.ruleset.proofs.Parsing.{step-good, step-bad, andThen-good}
 use Rattle.ruleset.proofs.Heads.{of, sound-good, sound-bad}
-use Rattle.ruleset.proofs.Spelling.{spaced-length}
 use Rattle.ruleset.proofs.Writing.{written-bad, written-good, writes-refused, writes-then, writes-as}
 
 -- the test of a rule after its disjuncts
@@ -71,7 +71,7 @@ module _ (form arities : List ℕ) (at i v : ℕ) (before mid : List ℕ) (r : S
   unfolding ruleBytes ruleAt
   rule-spelled =
       let o : at + 1 ≡ suc at = omega arith in
-      let s : later ≡ length heads ∷ collect atomsBytes heads = ap (λ (x : ℕ). x ∷ collect atomsBytes heads) (sym (spaced-length (groupAt form arities) 21 v (at + 22))) in
+      let s : later ≡ length heads ∷ collect atomsBytes heads = ap (λ (x : ℕ). x ∷ collect atomsBytes heads) (sym (length-spaced (groupAt form arities) 21 v (at + 22))) in
       rw (o, s, here)
 
   pub body-refused : (m p : ℕ) (after : List ℕ) → r ≡ Bad m p → Writes none (λ bs. rule bs arities i) i (ruleBytes (ruleAt form arities at)) before r after

@@ -1,9 +1,9 @@
 -- What a form spells, from one place to the next. Assumes nothing.
-use mathlib.Core.Path.{_≡_, refl, ap}
+use mathlib.Core.Path.{_≡_}
 use mathlib.Core.List.{List, [], _∷_, _++_}
-use Prim.Native.Nat.{ℕ, zero, suc, _+_, _-_, _≤_, _<_}
+use Prim.Native.Nat.{ℕ, suc, _+_, _-_, _≤_, _<_}
 use native.Mathlib.Omega.{arith}
-use lib.ListN.{length, getD}
+use lib.ListN.{getD}
 use Rattle.model.specs.Lists.{collect, numbersFrom}
 use Rattle.model.specs.Form.{spaced}
 
@@ -32,8 +32,3 @@ module _ {A : Type 0} (f : ℕ → A) (spell : A → List ℕ) (w : ℕ) where
 
   pub spaced-whole : (at n : ℕ) → collect spell (spaced f w n at) ≡ collect spell (spaced f w (n - 0) at)
   spaced-whole at n = let m : n - 0 ≡ n = omega arith in rw m
-
-pub spaced-length : {A : Type 0} (f : ℕ → A) (w n at : ℕ) → length (spaced f w n at) ≡ n
-unfolding spaced
-spaced-length f w zero at = refl
-spaced-length f w (suc n) at = ap suc (spaced-length f w n (at + w))

@@ -14,6 +14,7 @@ use Rattle.model.specs.Stages.{critical, stage}
 use Rattle.laws.proofs.Facts.{fact-path}
 use Rattle.laws.proofs.Rules.{entries-mem}
 use Rattle.laws.proofs.Triggers.{headFacts-mem, output-mem}
+use Rattle.laws.proofs.Lists.{getD-mem}
 use Rattle.stage_laws.proofs.Outputs.{outputs-mem}
 use Rattle.stage_laws.proofs.Growth.{outputsOf, stage-zero-facts, facts-from}
 
@@ -81,11 +82,6 @@ facts-well-formed b w (suc n) {f} m =
 
 -- one to four arguments
 
-getD-mem : (xs : List ℕ) (i : ℕ) → i < length xs → List·Memᴰ (getD xs i 0) xs
-getD-mem [] i h = absurd (omega arith)
-getD-mem (x ∷ xs) zero h = List·Memᴰ·head refl
-getD-mem (x ∷ xs) (suc i) h = List·Memᴰ·tail (getD-mem xs i (omega arith))
-
 pub arguments-range : (b : RuleSet) → WellFormed b → {f : Fact} → WellFormedFact (b .arities) f → (1 ≤ length (f .arguments)) × (length (f .arguments) ≤ 4)
 arguments-range b w {f} h =
-    rw (h .arity) (w .arities (getD (b .arities) (f .predicate) 0) (getD-mem (b .arities) (f .predicate) (h .declared)))
+    rw (h .arity) (w .arities (getD (b .arities) (f .predicate) 0) (getD-mem (b .arities) (f .predicate) 0 (h .declared)))

@@ -1,7 +1,7 @@
 -- Terms of the stages of a well-formed rule set: each is ⋆ or a Skolem term over terms of the stage before, so its arguments stand before it.
 -- Assumes nothing.
 use mathlib.Core.Path.{_≡_, refl, sym, ap, _∙_, subst}
-use mathlib.Core.Bool.{Bool, true, false}
+use mathlib.Core.Bool.{true, false}
 use mathlib.Core.Logic.{_⊎_, inl, inr, ⊎-elim}
 use mathlib.Core.List.{List, [], _∷_, _++_, map, List·Memᴰ, List·Memᴰ·head, List·Memᴰ·tail, Memᴰ·append-left, Memᴰ·append-right, List·Memᴰ·eq-of-singleton}
 use Prim.Native.Nat.{ℕ, zero, suc, _+_, _≤_, _<_}
@@ -10,40 +10,24 @@ use lib.Dec.{eqb}
 use lib.ListN.{length, getD, take, drop, length-map, length-take}
 use lib.Seq.{split-at}
 use borrow.Author.Tests.{not-false}
-use Rattle.model.specs.Lists.{any, keep, index}
+use Rattle.model.specs.Lists.{any, index}
 use Rattle.model.specs.Term.{Term, Terms, star, skolem, list, terms, same}
 use Rattle.model.specs.Rules.{Atom, Rule, RuleSet, Disjunct, Entry, entries, variablesOf, inBody, universal, frontier, existential, detached}
 use Rattle.model.specs.WellFormed.{WellFormedRule, WellFormed}
 use Rattle.model.specs.Triggers.{Fact, termsOf, assign, instantiate, headTerm}
 use Rattle.model.specs.Stages.{triggersIn, stage}
 use Rattle.laws.proofs.Bools.{case}
-use Rattle.laws.proofs.Lists.{keep-yes, keep-no, any-mem, any-false, map-mem, extend-mem, index-mem}
+use Rattle.laws.proofs.Lists.{any-mem, any-false, map-mem, extend-mem, index-mem, index-append, mem-length}
 use Rattle.laws.proofs.Terms.{same-decides, list-terms}
 use Rattle.laws.proofs.Facts.{termsOf-mem}
-use Rattle.laws.proofs.Rules.{entries-mem, mem-variablesOf, variablesOf-mem, mem-universal, mem-frontier, frontier-mem, mem-existential}
+use Rattle.laws.proofs.Rules.{entries-mem, mem-variablesOf, mem-universal, mem-frontier, frontier-mem, mem-existential, frontier-few}
 use Rattle.laws.proofs.Triggers.{Assignment, assign-mem, headTerm-universal, headTerm-existential, headFacts-mem, output-mem, triggers-mem}
-use Rattle.stage_laws.proofs.Lists.{Prefix, index-append}
+use Rattle.laws.proofs.WellFormed.{variable-range}
+use Rattle.stage_laws.proofs.Lists.{Prefix}
 use Rattle.stage_laws.proofs.Outputs.{Fires, outputs-mem}
 use Rattle.stage_laws.proofs.Growth.{outputsOf, stage-zero-terms, stage-suc-terms, terms-grow-once, facts-from, arguments-in-terms}
 
--- the frontier of a well-formed rule has one to eight variables
-
-length-keep {ℓ} : {A : Type ℓ} (p : A → Bool) (xs : List A) → length (keep p xs) ≤ length xs
-unfolding keep
-length-keep p [] = omega arith
-length-keep p (x ∷ xs) = go (length-keep p xs) (case (p x))
-  where
-    go : length (keep p xs) ≤ length xs → (p x ≡ true) ⊎ (p x ≡ false) → length (keep p (x ∷ xs)) ≤ length (x ∷ xs)
-    go h (inl e) = rw (keep-yes p x xs e) (omega arith)
-    go h (inr e) = rw (keep-no p x xs e) (omega arith)
-
-mem-length {ℓ} : {A : Type ℓ} {x : A} {xs : List A} → List·Memᴰ x xs → 1 ≤ length xs
-mem-length (List·Memᴰ·head e) = omega arith
-mem-length (List·Memᴰ·tail m) = omega arith
-
-pub frontier-few : (r : Rule) → length (frontier r) ≤ 8
-unfolding frontier
-frontier-few r = length-keep _ _
+-- the frontier of a well-formed rule has a variable
 
 attached-variable : (r : Rule) (d : List Atom) → detached r d ≡ false → (v : ℕ) × List·Memᴰ v (variablesOf d) × (inBody r v ≡ true)
 unfolding detached
@@ -52,7 +36,7 @@ attached-variable r d h = any-mem (inBody r) (variablesOf d) (not-false (any (in
 -- a variable of a well-formed disjunct is at most 7
 pub disjunct-range : {arities : List ℕ} {r : Rule} {d : List Atom} {v : ℕ} → WellFormedRule arities r → List·Memᴰ d (r .head)
     → List·Memᴰ v (variablesOf d) → v ≤ 7
-disjunct-range {d = d} {v = v} w m k = let (a, i, j) = variablesOf-mem d k in w .each d m .each a i .range v j
+disjunct-range {d = d} w m k = variable-range (w .each d m) k
 
 -- each disjunct has a variable of the frontier
 pub frontier-shared : {arities : List ℕ} {r : Rule} {d : List Atom} → WellFormedRule arities r → List·Memᴰ d (r .head)

@@ -12,8 +12,9 @@ use Rattle.model.specs.Triggers.{Fact}
 use Rattle.model.specs.Tables.{number, termRow, factRow}
 use Rattle.model.specs.Spelled.{termAt, factAt, spelledFacts}
 use Rattle.laws.proofs.Facts.{fact-path}
-use Rattle.format_laws.proofs.Lists.{getD-mem}
-use Rattle.table_laws.proofs.Rows.{row-collect, length-padded}
+use Rattle.laws.proofs.Lists.{getD-mem}
+use Rattle.laws.proofs.Places.{length-padded}
+use Rattle.table_laws.proofs.Rows.{row-collect}
 use Rattle.table_laws.proofs.Terms.{TermList, map-read, termAt-number}
 
 -- a fact that a record can hold, over terms numbered by ts

@@ -1,29 +1,13 @@
 -- How many Skolem functions a well-formed rule set has at most: 2,048. Assumes nothing.
 use mathlib.Core.Path.{_≡_, refl, sym, subst}
-use mathlib.Core.Bool.{Bool, true, false, _&&_, not}
 use mathlib.Core.Logic.{_⊎_, inl, inr}
 use mathlib.Core.List.{List, [], _∷_, List·Memᴰ, List·Memᴰ·head, List·Memᴰ·tail, List·Memᴰ·not-nil, List·Memᴰ·cases-cons}
 use Prim.Native.Nat.{ℕ, suc, _+_, _*_, _≤_}
 use native.Mathlib.Omega.{arith}
 use lib.ListN.{length}
-use Rattle.model.specs.Lists.{keep, member}
-use Rattle.model.specs.Rules.{Atom, Rule, RuleSet, Disjunct, Entry, names, inBody, existential, variablesOf, disjunctsFrom, countSkolem, entriesFrom, entries}
+use Rattle.model.specs.Rules.{Atom, Rule, RuleSet, Disjunct, Entry, existential, disjunctsFrom, countSkolem, entriesFrom, entries}
 use Rattle.model.specs.WellFormed.{WellFormed}
-use Rattle.laws.proofs.Bools.{case}
-use Rattle.laws.proofs.Lists.{keep-yes, keep-no}
-
-pub length-keep {ℓ} : {A : Type ℓ} (p : A → Bool) (xs : List A) → length (keep p xs) ≤ length xs
-unfolding keep
-length-keep p [] = omega arith
-length-keep p (x ∷ xs) = go (length-keep p xs) (case (p x))
-  where
-    go : length (keep p xs) ≤ length xs → (p x ≡ true) ⊎ (p x ≡ false) → length (keep p (x ∷ xs)) ≤ length (x ∷ xs)
-    go h (inl e) = rw (keep-yes p x xs e) (omega arith)
-    go h (inr e) = rw (keep-no p x xs e) (omega arith)
-
-pub existential-few : (r : Rule) (d : List Atom) → length (existential r d) ≤ 8
-unfolding existential
-existential-few r d = length-keep (λ (v : ℕ). member v (variablesOf d) && not (inBody r v)) names
+use Rattle.laws.proofs.Rules.{existential-few}
 
 countSkolem-few : (r : Rule) (ds : List (List Atom)) → countSkolem r ds ≤ length ds * 8
 unfolding countSkolem

@@ -1,8 +1,8 @@
 -- The number of a term is where it stands, both ways. Assumes nothing.
-use mathlib.Core.Path.{_≡_, sym, ap, _∙_, subst}
+use mathlib.Core.Path.{_≡_, ap, _∙_, subst}
 use mathlib.Core.Bool.{Bool, true, false}
 use mathlib.Core.Logic.{_⊎_, inl, inr}
-use mathlib.Core.List.{List, _∷_, _++_, List·Memᴰ, List·Memᴰ·head, List·Memᴰ·tail}
+use mathlib.Core.List.{List, _∷_, List·Memᴰ}
 use Prim.Native.Nat.{ℕ, zero, suc, _<_}
 use native.Mathlib.Omega.{arith}
 use lib.ListN.{length, getD}
@@ -10,9 +10,8 @@ use Rattle.model.specs.Lists.{index}
 use Rattle.model.specs.Term.{Term, star, same}
 use Rattle.model.specs.Tables.{number}
 use Rattle.laws.proofs.Bools.{case}
-use Rattle.laws.proofs.Lists.{Decides, Distinct, none, one, index-here, index-there, index-mem}
+use Rattle.laws.proofs.Lists.{Decides, Distinct, none, one, index-here, index-there, index-mem, getD-mem}
 use Rattle.laws.proofs.Terms.{same-decides}
-use Rattle.format_laws.proofs.Lists.{getD-mem}
 
 module _ {A : Type 0} (eq : A → A → Bool) (dec : Decides eq) where
   -- what stands once is found where it stands
@@ -25,17 +24,6 @@ module _ {A : Type 0} (eq : A → A → Bool) (dec : Decides eq) where
       go below (inl e) = absurd (n (subst (λ (y : A). List·Memᴰ y xs) (dec .sound (getD xs i d) x e) (getD-mem xs i d (omega arith))))
       go below (inr e) = index-there eq dec (getD xs i d) x xs e ∙ ap suc below
 
-  -- an element of a list's front is found in it
-  pub index-append : {x : A} {xs : List A} (ys : List A) → List·Memᴰ x xs → index eq x (xs ++ ys) ≡ index eq x xs
-  index-append {x} ys (List·Memᴰ·head {x = y} {xs = zs} e) =
-      let k : eq x y ≡ true = subst (λ (w : A). eq x w ≡ true) e (dec .complete x) in
-      index-here eq dec x y (zs ++ ys) k ∙ sym (index-here eq dec x y zs k)
-  index-append {x} ys (List·Memᴰ·tail {x = y} {xs = zs} m) = go (index-append ys m) (case (eq x y))
-    where
-      go : index eq x (zs ++ ys) ≡ index eq x zs → (eq x y ≡ true) ⊎ (eq x y ≡ false) → index eq x (y ∷ (zs ++ ys)) ≡ index eq x (y ∷ zs)
-      go below (inl k) = index-here eq dec x y (zs ++ ys) k ∙ sym (index-here eq dec x y zs k)
-      go below (inr k) = index-there eq dec x y (zs ++ ys) k ∙ ap suc below ∙ sym (index-there eq dec x y zs k)
-
 pub number-below : {ts : List Term} (t : Term) → List·Memᴰ t ts → number ts t < length ts
 unfolding number
 number-below {ts} t m = index-mem same same-decides t ts star m .0
@@ -47,7 +35,3 @@ getD-number {ts} t d m = index-mem same same-decides t ts d m .1
 pub number-getD : {ts : List Term} → Distinct ts → (i : ℕ) (d : Term) → i < length ts → number ts (getD ts i d) ≡ i
 unfolding number
 number-getD k i d h = index-getD same same-decides k i d h
-
-pub number-append : {t : Term} {ts : List Term} (us : List Term) → List·Memᴰ t ts → number (ts ++ us) t ≡ number ts t
-unfolding number
-number-append us m = index-append same same-decides us m

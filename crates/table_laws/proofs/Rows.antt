@@ -5,10 +5,11 @@ use mathlib.Core.List.{List, [], _∷_, _++_, append-assoc, List·Memᴰ, List·
 use Prim.Native.Nat.{ℕ, zero, suc, _-_, _*_, _≤_, _<_}
 use native.Mathlib.Nat.{zero-mul, suc-mul, add-comm}
 use native.Mathlib.Omega.{arith}
-use lib.ListN.{length, getD, take, drop, replicate, length-append, length-drop, length-replicate, take-append-drop, List·getD-append}
+use lib.ListN.{length, getD, take, drop, replicate, length-append, length-drop, take-append-drop}
 use lib.Seq.{take-at, drop-at, drop-drop}
 use Rattle.model.specs.Lists.{collect, padded, row}
 use Rattle.model.specs.Tables.{fronted}
+pub use Rattle.laws.proofs.Places.{length-padded}
 use Rattle.stage_laws.proofs.Lists.{mem-replicate}
 
 -- the first row, and the rows after it
@@ -31,16 +32,6 @@ module _ {ℓ} {A : Type ℓ} (w : ℕ) (f : A → List ℕ) where
   row-collect (x ∷ xs) rest d h (suc i) l =
       rw (append-assoc (f x) (collect f xs) rest)
       (row-suc w i (f x) (collect f xs ++ rest) (h x (List·Memᴰ·head refl)) ∙ row-collect xs rest d (λ y m. h y (List·Memᴰ·tail m)) i (omega arith))
-
--- `padded`
-
-pub length-padded : (n : ℕ) (xs : List ℕ) → length xs ≤ n → length (padded n xs) ≡ n
-unfolding padded
-length-padded n xs h = rw (length-append, length-replicate) (omega arith)
-
-pub getD-padded : (n : ℕ) (xs : List ℕ) (i : ℕ) → i < length xs → getD (padded n xs) i 0 ≡ getD xs i 0
-unfolding padded
-getD-padded n xs i h = List·getD-append xs (replicate (n - length xs) 0) 0 i h
 
 -- the front of a table
 

@@ -12,8 +12,7 @@ use Rattle.model.specs.Triggers.{Fact}
 use Rattle.model.specs.Stages.{Stage, Verdict}
 use Rattle.model.specs.Tables.{number, termRow, factRow, recorded}
 use Rattle.model.specs.Text.{termNumbers, factNumbers}
-use Rattle.laws.proofs.Lists.{map-mem}
-use Rattle.format_laws.proofs.Lists.{getD-mem}
+use Rattle.laws.proofs.Lists.{map-mem, getD-mem}
 use Rattle.table_laws.proofs.Rows.{row-collect}
 use Rattle.table_laws.proofs.Numbering.{number-below}
 use Rattle.table_laws.proofs.Terms.{Recordable, plain, marked, row-table}

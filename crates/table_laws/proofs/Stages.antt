@@ -14,12 +14,12 @@ use Rattle.model.specs.Rules.{RuleSet, Entry, entries, existential}
 use Rattle.model.specs.WellFormed.{WellFormed}
 use Rattle.model.specs.Stages.{stage}
 use Rattle.model.specs.Tables.{number, termRow}
-use Rattle.laws.proofs.Lists.{eqb-decides, index-mem}
+use Rattle.laws.proofs.Lists.{eqb-decides, index-mem, getD-mem}
+use Rattle.laws.proofs.Terms.{number-append}
 use Rattle.stage_laws.proofs.Growth.{stage-zero-terms, arguments-in-terms}
 use Rattle.stage_laws.proofs.Arities.{facts-well-formed, arguments-range}
 use Rattle.stage_laws.proofs.Order.{Invented, Proper, proper-star, proper-skolem, Ordered, terms-from, terms-proper, terms-ordered}
-use Rattle.format_laws.proofs.Lists.{getD-mem}
-use Rattle.table_laws.proofs.Numbering.{number-below, getD-number, number-append}
+use Rattle.table_laws.proofs.Numbering.{number-below, getD-number}
 use Rattle.table_laws.proofs.Terms.{Recordable, plain, marked, TermList}
 use Rattle.table_laws.proofs.Recorded.{Recorded}
 use Rattle.table_laws.proofs.Fronts.{Within}
@@ -34,7 +34,7 @@ star-plain ts i = plain refl refl
 number-before : (ts : List Term) (i : ℕ) → i ≤ length ts → {a : Term} → List·Memᴰ a (take i ts) → number ts a < i
 number-before ts i l {a} m =
     let k = number-below a m in
-    let e : number ts a ≡ number (take i ts) a = ap (λ (xs : List Term). number xs a) (sym (take-append-drop i ts)) ∙ number-append (drop i ts) m in
+    let e : number ts a ≡ number (take i ts) a = ap (λ (xs : List Term). number xs a) (sym (take-append-drop i ts)) ∙ number-append a (take i ts) (drop i ts) m in
     let n = length-take-le i ts l in
     omega arith
 

@@ -14,7 +14,8 @@ use Rattle.model.specs.Term.{Term, Terms, star, skolem, list, terms}
 use Rattle.model.specs.Tables.{number, termRow}
 use Rattle.model.specs.Spelled.{termAt, spelledTerms}
 use Rattle.laws.proofs.Terms.{terms-list}
-use Rattle.table_laws.proofs.Rows.{row-collect, length-padded}
+use Rattle.laws.proofs.Places.{length-padded}
+use Rattle.table_laws.proofs.Rows.{row-collect}
 use Rattle.table_laws.proofs.Numbering.{number-below, getD-number}
 
 -- A term that record i can hold, over terms numbered by ts. c says what a record of zeros is.

@@ -1,15 +1,14 @@
 -- `ruleset::writer::put_atom` meets its contract: the predicate, and then as many variables as its arity says. Assumes nothing.
 use Prim.Native.Nat.{_≤_}
 use native.Mathlib.Omega.{arith}
-use Rattle.format_laws.proofs.Places.{numbersFrom-length}
-use Rattle.ruleset.proofs.Places.{numbers-at}
+use Rattle.laws.proofs.Places.{getD-numbersFrom, length-numbersFrom}
 use Rattle.ruleset.proofs.AtomWriting.{atom-refused, atom-written, ends-within, ends-refused}
 use borrow.Author.Needs.{needs}
 use Rattle.ruleset.proofs.writer.put_atom.Statement.{statement}
 use Rattle.ruleset.proofs.writer.put_atom.Tie as tie
 
 some : (c : tie.Start) → 1 ≤ c .args .n
-some c = let h = c .pre .0 .some in let e = numbersFrom-length (c .args .form .now) 6786 (c .args .n) in omega arith
+some c = let h = c .pre .0 .some in let e = length-numbersFrom (c .args .form .now) 6786 (c .args .n) in omega arith
 
 -- the arity of a declared predicate
 small : (c : tie.After-number2) → c .number2 .result ≤ 4
@@ -19,7 +18,7 @@ small c =
     let same = t .same _ _ e in
     let most = t .most _ _ e in
     let n = some (c .before .before .before .before .before .before .before .before .before .before .before) in
-    let at = numbers-at (c .before .before .before .before .before .before .before .before .before .before .before .args .form .now) 6786 (c .before .before .before .before .before .before .before .before .before .before .before .args .n) (c .before .before .head .given .0 .0) (omega arith) in
+    let at = getD-numbersFrom (c .before .before .before .before .before .before .before .before .before .before .before .args .form .now) 6786 (c .before .before .before .before .before .before .before .before .before .before .before .args .n) (c .before .before .head .given .0 .0) (omega arith) in
     let l = c .before .before .before .before .before .before .before .before .before .before .before .pre .0 .small (c .before .before .head .given .0 .0) in
     let z = c .number2 .ensures in
     omega arith

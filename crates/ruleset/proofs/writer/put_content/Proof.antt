@@ -3,7 +3,7 @@ use mathlib.Core.Path.{_≡_, refl}
 use Prim.Native.Nat.{_≤_}
 use native.Mathlib.Omega.{arith}
 use lib.ListN.{getD}
-use Rattle.format_laws.proofs.Places.{numbersFrom-length}
+use Rattle.laws.proofs.Places.{length-numbersFrom}
 use Rattle.ruleset.proofs.AtomWriting.{ends-within, ends-refused}
 use Rattle.ruleset.proofs.ContentWriting.{version-refused, predicates-refused, arities-refused, content-written}
 use borrow.Author.Needs.{needs}
@@ -95,7 +95,7 @@ put-rules-requires c κs =
     let a = c .before .before .before .before .before .before .put-arities in
     let e = c .before .before .listed .given .1 in
     let k = a .ensures .1 .most _ _ e in
-    let n = numbersFrom-length (c .before .before .before .before .before .before .before .before .before .before .before .before .before .before .before .before .before .before .before .before .before .before .before .before .before .args .form .now) 6786 (c .before .before .before .before .before .before .before .before .before .first .given .0 .0) in
+    let n = length-numbersFrom (c .before .before .before .before .before .before .before .before .before .before .before .before .before .before .before .before .before .before .before .before .before .before .before .before .before .args .form .now) 6786 (c .before .before .before .before .before .before .before .before .before .first .given .0 .0) in
     let l = c .before .before .before .before .before .before .before .before .before .before .before .before .before .before .before .before .before .before .before .before .before .put .kept .1 .1 .1 .1 .1 .0 in
     let m = c .before .before .before .before .before .before .before .before .before .before .before .before .before .put2 .kept .1 .1 .1 .1 .1 .0 in
     let o = a .kept .1 .1 .1 .0 in
