@@ -11,5 +11,4 @@ pub mod Satisfied
 pub mod Stages
 pub mod Regular
 pub mod Test
-pub mod Growth
 pub mod Start

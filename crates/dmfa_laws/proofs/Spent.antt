@@ -6,30 +6,24 @@ use mathlib.Core.List.{List, [], map, List·Memᴰ}
 use Prim.Native.Nat.{ℕ}
 use lib.ListN.{take}
 use Rattle.model.specs.Term.{Term, same, cyclic}
-use Rattle.model.specs.Rules.{RuleSet, Entry, entries, inBody, universal, blockable}
+use Rattle.model.specs.Rules.{RuleSet, Entry, entries, universal, blockable}
 use Rattle.model.specs.WellFormed.{WellFormed}
 use Rattle.model.specs.Triggers.{Fact, sameFact, termsOf, assign, output}
 use Rattle.model.specs.Stages.{triggersIn, stage}
 use Rattle.model.specs.Tables.{number, termRow}
 use Rattle.laws.proofs.Terms.{same-decides}
 use Rattle.laws.proofs.Facts.{sameFact-decides, termsOf-mem}
-use Rattle.laws.proofs.Rules.{entries-mem, inBody-mem, variablesOf-mem, mem-universal}
-use Rattle.laws.proofs.Triggers.{Assignment, assign-mem, triggers-mem}
-use Rattle.laws.proofs.WellFormed.{entry-well-formed}
 use Rattle.stage_laws.proofs.Lists.{extend-nothing}
 use Rattle.stage_laws.proofs.Outputs.{contribution-free}
 use Rattle.stage_laws.proofs.Growth.{arguments-in-terms}
-use Rattle.stage_laws.proofs.Arities.{disjunct-well-formed}
 use Rattle.stage_laws.proofs.Verdict.{Reached}
 use Rattle.published_laws.proofs.Dmfa.{reached-acyclic, unblockable-free}
 use Rattle.rows.specs.Triggers.{numbers}
 use Rattle.rows.proofs.Encoding.{Within, encode}
-use Rattle.rows.proofs.Triggers.{numbers-encoded}
-use Rattle.rows.proofs.Outputs.{Placed}
 use Rattle.stage_rows.specs.Making.{Made, handled, makeOutput}
 use Rattle.dmfa_laws.proofs.Lists.{keep-nothing}
 use Rattle.dmfa_laws.proofs.Handled.{leaving, handled-spent}
-use Rattle.dmfa_laws.proofs.Follows.{Follows, follows-start, follows-output}
+use Rattle.dmfa_laws.proofs.Follows.{Follows, follows-start, follows-trigger}
 
 module _ (b : RuleSet) (w : WellFormed b) (n : ℕ) (r : Reached b n) where
   abbrev ts : List Term
@@ -63,33 +57,14 @@ module _ (b : RuleSet) (w : WellFormed b) (n : ℕ) (r : Reached b n) where
           ∙ ap (λ (l : List Term). map (termRow ts) (take 1 l)) (keep-nothing cyclic (termsOf out) (λ t k. reached-acyclic b n r t (old-terms h t k)))
 
   module _ {e : Entry} (i : List·Memᴰ e (entries b)) (m : List Term) (k : List·Memᴰ m (triggersIn (stage b n) e)) where
-    assignment : Assignment (universal (e .rule)) ts m
-    unfolding triggersIn
-    assignment = triggers-mem (e .rule) ts fs k .0
-
     abbrev σ : ℕ → Term
     σ = assign (universal (e .rule)) m
 
     abbrev α : ℕ → ℕ
     α = numbers (universal (e .rule)) (map (number ts) m)
 
-    body-universal : (v : ℕ) → inBody (e .rule) v ≡ true → List·Memᴰ v (universal (e .rule))
-    body-universal v h =
-        let (a, p, q) = variablesOf-mem (e .rule .body) (inBody-mem (e .rule) v h) in
-        mem-universal (e .rule) (entry-well-formed w i .body .each a p .range v q) h
-
-    -- the trigger's terms stand in the stage, by their numbers
-    trigger-placed : Placed ts (e .rule) σ α
-    trigger-placed =
-        record {
-          there = λ v h. assignment .terms (σ v) (assign-mem (universal (e .rule)) m (assignment .total) (body-universal v h));
-          numbered = λ v h. numbers-encoded (number ts) ts (universal (e .rule)) m (assignment .total) (body-universal v h);
-        }
-
     output-follows : Follows b n (output σ (e .disjuncts)) (makeOutput (map (termRow ts) ts) α (e .disjuncts) begun)
-    output-follows =
-        follows-output b w n r σ α (e .disjuncts) (λ d j. rw (entries-mem b i .disjuncts d j .0) trigger-placed)
-        (λ d j a q. disjunct-well-formed b w i j q) (follows-start b w n r)
+    output-follows = follows-trigger b w n r i k (follows-start b w n r)
 
     -- of a rule that is not blockable, a trigger that was handled one stage earlier
     pub handled-same : blockable (e .rule) ≡ false → handled (leaving b n) (e .rule) (map (number ts) m) ≡ true

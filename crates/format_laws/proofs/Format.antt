@@ -104,7 +104,7 @@ module _ (r : Rule) (start i : ℕ) where
       go (inr e) (inr f) = rw (sound-good e f) (taken (h e f))
 
 module _ {A B C : Type 0} where
-  andThen-assoc : (o : Parsed A) (k : A → ℕ → Parsed B) (l : B → ℕ → Parsed C) → andThen (andThen o k) l ≡ andThen o (λ x j. andThen (k x j) l)
+  pub andThen-assoc : (o : Parsed A) (k : A → ℕ → Parsed B) (l : B → ℕ → Parsed C) → andThen (andThen o k) l ≡ andThen o (λ x j. andThen (k x j) l)
   unfolding andThen
   andThen-assoc (good x j) k l = refl
   andThen-assoc (bad n p) k l = refl

@@ -16,9 +16,9 @@ use Rattle.model.specs.Form.{decoded, writing, done}
 use Rattle.laws.proofs.Bools.{case}
 use Rattle.format_laws.proofs.Bytes.{bytesOf-length}
 use Rattle.format_laws.proofs.RoundTrip.{decoded-fault, writing-good}
+use Rattle.format_laws.proofs.Format.{andThen-assoc}
 use Rattle.ruleset.specs.Step.{parsedRules}
 use Rattle.ruleset.specs.Writes.{Agree, parsedContent, lengthened}
-use Rattle.ruleset.proofs.Parsing.{andThen-assoc}
 
 -- the parse of all that follows the length, and the test that the bytes end there
 

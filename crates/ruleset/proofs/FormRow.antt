@@ -11,11 +11,12 @@ use Rattle.model.specs.Lists.{padded, collect}
 use Rattle.model.specs.Rules.{Rule, RuleSet}
 use Rattle.model.specs.Format.{Parsed, good, many, byte, ruleSet}
 use Rattle.model.specs.Form.{ruleRow, encoded}
+use Rattle.format_laws.proofs.Format.{andThen-assoc}
 use Rattle.ruleset.specs.Step.{zeros, Filled, none, Arities, parsedRules, rulesRow, afterArities}
 use Rattle.ruleset.specs.declared.Step.{Step}
 use Rattle.ruleset.specs.declared.Step.the-variants.{Good, Bad}
 use Rattle.ruleset.proofs.Lists.{zeros-suc, length-zeros, zeros-length, drop-zeros, take-zeros, padded-zeros}
-use Rattle.ruleset.proofs.Parsing.{continues, filled-good, filled-bad, andThen-assoc, byte-good}
+use Rattle.ruleset.proofs.Parsing.{continues, filled-good, filled-bad, byte-good}
 use Rattle.ruleset.proofs.Many.{many-length, many-at}
 
 -- the lists that the form goes through: the count is set, the arities are copied, the rules are filled

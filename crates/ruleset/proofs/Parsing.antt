@@ -123,12 +123,6 @@ pub filled-bad : {A : Type 0} (keep : A → ℕ) (row : A → List ℕ) (parsed 
 unfolding stepOf
 filled-bad keep row parsed n p left e = record { answer = rw e; stored = λ a j f. bad-is-not-good parsed n p a j e f }
 
-pub andThen-assoc : {A B C : Type 0} (parsed : Parsed A) (f : A → ℕ → Parsed B) (g : B → ℕ → Parsed C)
-    → andThen (andThen parsed f) g ≡ andThen parsed (λ a i. andThen (f a i) g)
-unfolding andThen
-andThen-assoc (good a i) f g = refl
-andThen-assoc (bad n p) f g = refl
-
 pub andThen-good : {A B : Type 0} (parsed : Parsed A) (k : A → ℕ → Parsed B) (a : A) (j : ℕ) → parsed ≡ good a j → andThen parsed k ≡ k a j
 unfolding andThen
 andThen-good parsed k a j e = rw e
