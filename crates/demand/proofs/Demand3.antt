@@ -10,7 +10,7 @@ use Rattle.model.specs.Triggers.{Fact}
 use Rattle.model.specs.Stages.{stage, verdict, accepted}
 use Rattle.model.specs.Demand.{Demand3}
 use Rattle.laws.proofs.Lists.{false-any}
-use Rattle.stage_laws.proofs.Lists.{prefix-mem}
+use Rattle.laws.proofs.Prefixes.{prefix-mem}
 use Rattle.stage_laws.proofs.Outputs.{mem-outputs}
 use Rattle.stage_laws.proofs.Growth.{stage-zero-facts, facts-grow, outputs-in}
 use Rattle.stage_laws.proofs.Verdict.{Accepted, accepted-says}

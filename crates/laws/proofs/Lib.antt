@@ -1,5 +1,6 @@
 pub mod Bools
 pub mod Lists
+pub mod Prefixes
 pub mod Terms
 pub mod Facts
 pub mod Rules

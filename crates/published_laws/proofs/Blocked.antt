@@ -14,7 +14,7 @@ use Rattle.model.specs.Published.{Closed, Blocked}
 use Rattle.laws.proofs.Bools.{case, not-both}
 use Rattle.laws.proofs.Lists.{any-mem, mem-any, all-mem, mem-all}
 use Rattle.laws.proofs.Facts.{present-mem, mem-present}
-use Rattle.stage_laws.proofs.Lists.{prefix-mem}
+use Rattle.laws.proofs.Prefixes.{prefix-mem}
 use Rattle.stage_laws.proofs.Rounds.{testSet-begins, testSet-closes}
 use Rattle.published_laws.proofs.Closure.{saturate-sound, closed-within}
 

@@ -17,7 +17,7 @@ use Rattle.model.specs.Published.{Substitution, Blocked, Dmfa, start, step}
 use Rattle.laws.proofs.Bools.{case, not-both, is-false}
 use Rattle.laws.proofs.Facts.{termsOf-mem}
 use Rattle.laws.proofs.Triggers.{Assignment, Loaded, triggers-mem}
-use Rattle.stage_laws.proofs.Lists.{prefix-mem}
+use Rattle.laws.proofs.Prefixes.{prefix-mem}
 use Rattle.stage_laws.proofs.Outputs.{Fires, outputs-mem, mem-outputs, cyclicTerms-mem, outputs-acyclic, test-sets-within}
 use Rattle.stage_laws.proofs.Growth.{stage-zero-facts, stage-zero-terms, outputsOf, facts-from, facts-grow, outputs-added, arguments-in-terms, Named, terms-are-named}
 use Rattle.stage_laws.proofs.Verdict.{Reached, Looping, Cause, large, many, facts, terms, accepted-says, looping-says, refused-says, reached-before, accepted-closed}

@@ -2,3 +2,4 @@ pub mod Encoding
 pub mod Triggers
 pub mod Outputs
 pub mod Tables
+pub mod Growth

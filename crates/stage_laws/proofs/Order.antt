@@ -23,7 +23,7 @@ use Rattle.laws.proofs.Facts.{termsOf-mem}
 use Rattle.laws.proofs.Rules.{entries-mem, mem-variablesOf, mem-universal, mem-frontier, frontier-mem, mem-existential, frontier-few}
 use Rattle.laws.proofs.Triggers.{Assignment, assign-mem, headTerm-universal, headTerm-existential, headFacts-mem, output-mem, triggers-mem}
 use Rattle.laws.proofs.WellFormed.{variable-range}
-use Rattle.stage_laws.proofs.Lists.{Prefix}
+use Rattle.laws.proofs.Prefixes.{Prefix}
 use Rattle.stage_laws.proofs.Outputs.{Fires, outputs-mem}
 use Rattle.stage_laws.proofs.Growth.{outputsOf, stage-zero-terms, stage-suc-terms, terms-grow-once, facts-from, arguments-in-terms}
 
