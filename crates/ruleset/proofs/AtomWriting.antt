@@ -8,7 +8,7 @@ use Rattle.model.specs.Lists.{numbersFrom, collect}
 use Rattle.model.specs.Format.{Parsed, good, andThen, many, byte, variable, atom, atoms, atomBytes, atomsBytes}
 use Rattle.model.specs.Form.{spaced, atomAt, groupAt}
 use Rattle.laws.proofs.Places.{getD-numbersFrom, length-numbersFrom, length-spaced}
-use Rattle.ruleset.specs.Sets.{setOf}
+use Rattle.rules.specs.Sets.{setOf}
 use Rattle.ruleset.specs.Step.{value, atomSet, atomsSet}
 use Rattle.ruleset.specs.Writes.{Writes, Took, Ends}
 use Rattle.ruleset.specs.declared.Step.{Step}

@@ -16,10 +16,10 @@ use Rattle.model.specs.Format.{Parsed, good, bad, sound}
 use Rattle.laws.proofs.Bools.{case, not-both, and-true, true-and, both-ways}
 use Rattle.laws.proofs.Lists.{any-mem, mem-any, keep-mem, member-mem, mem-member, any-append}
 use Rattle.laws.proofs.Rules.{existential-mem, mem-existential, names-mem}
-use Rattle.ruleset.specs.Sets.{has}
+use Rattle.rules.specs.Sets.{has}
 use Rattle.ruleset.specs.Step.{atomsSet}
 use Rattle.ruleset.specs.Heads.{lacking, faultBy, faultOf, fault}
-use Rattle.ruleset.proofs.Sets.{has-or, has-and, has-zero, has-setOf, empty-is, has-beyond, has-complement}
+use Rattle.rules.proofs.Sets.{has-or, has-and, has-zero, has-setOf, empty-is, has-beyond, has-complement}
 
 -- tests that hold together
 

@@ -1,5 +1,4 @@
 pub mod Lists
-pub mod Sets
 pub mod Parsing
 pub mod Many
 pub mod Rows

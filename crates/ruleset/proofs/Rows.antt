@@ -8,11 +8,11 @@ use Rattle.model.specs.Lists.{padded, collect}
 use Rattle.model.specs.Rules.{Atom, variablesOf}
 use Rattle.model.specs.Format.{Parsed, good, many, byte, variable, atom, atoms}
 use Rattle.model.specs.Form.{atomRow, group}
-use Rattle.ruleset.specs.Sets.{setOf}
+use Rattle.rules.specs.Sets.{setOf}
 use Rattle.ruleset.specs.Step.{zeros, Filled, atomSet, atomsSet}
 use Rattle.ruleset.specs.declared.Step.{Step}
 use Rattle.laws.proofs.Lists.{collect-append}
-use Rattle.ruleset.proofs.Sets.{setOf-append}
+use Rattle.rules.proofs.Sets.{setOf-append}
 use Rattle.ruleset.proofs.Lists.{tail-length, headed-filled}
 use Rattle.ruleset.proofs.Parsing.{continues, maps, refill}
 use Rattle.ruleset.proofs.Many.{many-length}

@@ -1,4 +1,3 @@
-pub mod Sets
 pub mod Step
 pub mod Heads
 pub mod Transfer

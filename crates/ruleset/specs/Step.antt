@@ -9,7 +9,7 @@ use Rattle.model.specs.Lists.{padded, collect}
 use Rattle.model.specs.Rules.{Atom, Rule, RuleSet, variablesOf}
 use Rattle.model.specs.Format.{Parsed, good, bad, andThen, many, byte, rule}
 use Rattle.model.specs.Form.{ruleRow}
-use Rattle.ruleset.specs.Sets.{setOf}
+use Rattle.rules.specs.Sets.{setOf}
 use Rattle.ruleset.specs.declared.Step.{Step}
 use Rattle.ruleset.specs.declared.Step.the-variants.{Good, Bad}
 

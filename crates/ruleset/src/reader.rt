@@ -14,7 +14,7 @@ ghost use Rattle.model.specs.Form.{atomRow, group, ruleRow, encoded, reading};
 ghost use Rattle.model.specs.Format as format;
 ghost use Rattle.ruleset.specs.Step.{stepOf, value, none, parsedRules, rulesRow, afterArities, zeros, Filled, Arities, atomSet, atomsSet};
 ghost use Rattle.ruleset.specs.Transfer.{transferOf};
-ghost use Rattle.ruleset.specs.Sets.{setOf};
+ghost use Rattle.rules.specs.Sets.{setOf};
 ghost use Rattle.ruleset.specs.Heads.{fault as faulty};
 
 // A byte from low to high at i.

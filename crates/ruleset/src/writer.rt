@@ -12,7 +12,7 @@ ghost use Rattle.model.specs.Rules.{Atom};
 ghost use Rattle.model.specs.Format.{many, atomBytes, atomsBytes, ruleBytes, content};
 ghost use Rattle.model.specs.Format as format;
 ghost use Rattle.model.specs.Form.{spaced, atomAt, groupAt, ruleAt, decoded, writing};
-ghost use Rattle.ruleset.specs.Sets.{setOf};
+ghost use Rattle.rules.specs.Sets.{setOf};
 ghost use Rattle.ruleset.specs.Transfer.{transferOf};
 ghost use Rattle.ruleset.specs.Heads.{fault as faulty};
 ghost use Rattle.ruleset.specs.Step.{value, none, atomSet, atomsSet, Arities, parsedRules};

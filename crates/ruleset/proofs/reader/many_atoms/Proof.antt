@@ -8,7 +8,7 @@ use Rattle.model.specs.Rules.{variablesOf}
 use Rattle.model.specs.Lists.{collect}
 use Rattle.model.specs.Format.{atom}
 use Rattle.model.specs.Form.{atomRow}
-use Rattle.ruleset.specs.Sets.{setOf}
+use Rattle.rules.specs.Sets.{setOf}
 use Rattle.ruleset.specs.Step.{atomSet, atomsSet}
 use Rattle.ruleset.proofs.Lists.{zeros-length}
 use Rattle.ruleset.proofs.Many.{Progress, begun, finished, part-unfilled, more-part, failed-part, part-length}

@@ -5,10 +5,10 @@ use native.Mathlib.Omega.{arith}
 use borrow.Author.Needs.{needs}
 use lib.ListN.{length, length-set}
 use Rattle.model.specs.Format.{good, variable}
-use Rattle.ruleset.specs.Sets.{setOf}
+use Rattle.rules.specs.Sets.{setOf}
 use Rattle.ruleset.specs.Step.{value}
 use Rattle.ruleset.proofs.Lists.{single}
-use Rattle.ruleset.proofs.Sets.{setOf-more}
+use Rattle.rules.proofs.Sets.{setOf-more}
 use Rattle.ruleset.proofs.Parsing.{step-value, step-bad, variable-good}
 use Rattle.ruleset.proofs.Many.{Progress, begun, more-single, finished-single, failed}
 use Rattle.ruleset.proofs.reader.variables.Statement.{statement}

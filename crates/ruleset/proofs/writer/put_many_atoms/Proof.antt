@@ -8,7 +8,7 @@ use Rattle.model.specs.Lists.{numbersFrom, collect}
 use Rattle.model.specs.Rules.{variablesOf}
 use Rattle.model.specs.Format.{atom, atomBytes}
 use Rattle.model.specs.Form.{spaced, atomAt}
-use Rattle.ruleset.specs.Sets.{setOf}
+use Rattle.rules.specs.Sets.{setOf}
 use Rattle.ruleset.specs.Step.{atomSet, atomsSet}
 use Rattle.ruleset.proofs.Rows.{atomsSet-more}
 use Rattle.ruleset.proofs.Spelling.{spaced-next, spaced-none, spaced-whole}

@@ -6,9 +6,9 @@ use borrow.Author.Needs.{needs}
 use lib.ListN.{length}
 use Rattle.model.specs.Lists.{numbersFrom}
 use Rattle.model.specs.Format.{variable}
-use Rattle.ruleset.specs.Sets.{setOf}
+use Rattle.rules.specs.Sets.{setOf}
 use Rattle.ruleset.specs.Step.{value}
-use Rattle.ruleset.proofs.Sets.{setOf-more}
+use Rattle.rules.proofs.Sets.{setOf-more}
 use Rattle.ruleset.proofs.Spelling.{numbers-next, numbers-none, numbers-whole}
 use Rattle.ruleset.proofs.Writing.{Writing, writing-begun, writing-more, writing-refused, writing-ended, ends-bad, ends-good}
 use Rattle.ruleset.proofs.writer.put_variables.Statement.{statement}
