@@ -165,6 +165,16 @@ module _ {ℓ ℓ′} {A : Type ℓ} {B : Type ℓ′} where
       go below (inl e) = (x, List·Memᴰ·head refl, e)
       go below (inr k) = let (z, i, j) = below k in (z, List·Memᴰ·tail i, j)
 
+  pub getD-map : (g : A → B) (xs : List A) (i : ℕ) (d : B) (c : A) → i < length xs → getD (map g xs) i d ≡ g (getD xs i c)
+  getD-map g [] i d c h = absurd (omega arith)
+  getD-map g (x ∷ xs) zero d c h = refl
+  getD-map g (x ∷ xs) (suc i) d c h = getD-map g xs i d c (omega arith)
+
+pub collect-map {ℓ ℓ′ ℓ″} : {A : Type ℓ} {B : Type ℓ′} {C : Type ℓ″} (f : B → List C) (g : A → B) (xs : List A) → collect f (map g xs) ≡ collect (λ (x : A). f (g x)) xs
+unfolding collect
+collect-map f g [] = refl
+collect-map {C = C} f g (x ∷ xs) = ap (λ (l : List C). f (g x) ++ l) (collect-map f g xs)
+
 -- A test of equality that is one.
 pub record Decides {ℓ} {A : Type ℓ} (eq : A → A → Bool) : Type ℓ where
   pub sound : (x y : A) → eq x y ≡ true → x ≡ y
@@ -230,6 +240,16 @@ module _ {ℓ} {A : Type ℓ} where
     pub extend-length : (xs ys : List A) → length xs ≤ length (extend eq xs ys)
     extend-length xs ys = let (zs, k) = extend-prefix xs ys in rw (k, length-append) (omega arith)
 
+    pub extend-most : (xs ys : List A) → length (extend eq xs ys) ≤ length xs + length ys
+    unfolding extend
+    extend-most xs [] = omega arith
+    extend-most xs (y ∷ ys) = go (λ ws. extend-most ws ys) (case (any (eq y) xs))
+      where
+        go : ((ws : List A) → length (extend eq ws ys) ≤ length ws + length ys) → (any (eq y) xs ≡ true) ⊎ (any (eq y) xs ≡ false)
+            → length (extend eq xs (y ∷ ys)) ≤ length xs + suc (length ys)
+        go below (inl e) = rw (extend-old xs y ys e) (let h = below xs in omega arith)
+        go below (inr e) = rw (extend-new xs y ys e) (let h = below (xs ++ (y ∷ [])) in let k = length-append xs (y ∷ []) in omega arith)
+
     pub extend-mem : {x : A} (xs ys : List A) → List·Memᴰ x (extend eq xs ys) → List·Memᴰ x xs ⊎ List·Memᴰ x ys
     unfolding extend
     extend-mem xs [] m = inl m
@@ -247,6 +267,16 @@ module _ {ℓ} {A : Type ℓ} where
             → (any (eq y) xs ≡ true) ⊎ (any (eq y) xs ≡ false) → List·Memᴰ x xs ⊎ List·Memᴰ x (y ∷ ys)
         go below (inl e) = later (below xs (rw (extend-old xs y ys e) at m))
         go below (inr e) = place (below (xs ++ (y ∷ [])) (rw (extend-new xs y ys e) at m))
+
+    -- an index is at most the length
+    pub index-most : (x : A) (xs : List A) → index eq x xs ≤ length xs
+    unfolding index
+    index-most x [] = omega arith
+    index-most x (y ∷ ys) = go (index-most x ys) (case (eq x y))
+      where
+        go : index eq x ys ≤ length ys → (eq x y ≡ true) ⊎ (eq x y ≡ false) → index eq x (y ∷ ys) ≤ suc (length ys)
+        go h (inl e) = rw (e, index) (omega arith)
+        go h (inr e) = rw (e, index) (omega arith)
 
   module _ (eq : A → A → Bool) (dec : Decides eq) where
     pub extend-right : {x : A} (xs : List A) {ys : List A} → List·Memᴰ x ys → List·Memᴰ x (extend eq xs ys)

@@ -15,7 +15,7 @@ use Rattle.model.specs.Triggers.{Fact, sameFact}
 use Rattle.model.specs.Tables.{number, termRow, factRow}
 use Rattle.laws.proofs.Bools.{case, not-both, and-true, true-and}
 pub use Rattle.laws.proofs.Bools.{both-ways}
-use Rattle.laws.proofs.Lists.{Decides, index-mem}
+use Rattle.laws.proofs.Lists.{Decides, index-mem, getD-map}
 use Rattle.laws.proofs.Terms.{same-decides, terms-list, number-append}
 use Rattle.laws.proofs.Facts.{fact-path, sameFact-decides}
 use Rattle.rows.specs.Tables.{sameRow, Rows}
@@ -137,6 +137,10 @@ term-rows ts f us t h m s =
     both-ways (sameRow (termRow ts (skolem f us)) (termRow ts t)) (same (skolem f us) t)
     (λ e. subst (λ (w : Term). same (skolem f us) w ≡ true) (row-found ts f us t h m s (sameRow-decides .sound (termRow ts (skolem f us)) (termRow ts t) e)) (same-decides .complete (skolem f us)))
     (λ e. subst (λ (w : Term). sameRow (termRow ts (skolem f us)) (termRow ts w) ≡ true) (same-decides .sound (skolem f us) t e) (sameRow-decides .complete (termRow ts (skolem f us))))
+
+-- the row of a term of the list stands at its number
+pub row-at : (ts : List Term) {t : Term} → List·Memᴰ t ts → getD (map (termRow ts) ts) (number ts t) [] ≡ termRow ts t
+row-at ts {t} m = let (l, e) = number-mem m in getD-map (termRow ts) ts (number ts t) [] star l ∙ ap (termRow ts) e
 
 -- further terms leave the rows of the first as they are
 pub termRow-append : (ts us : List Term) {t : Term} → Shape ts t → termRow (ts ++ us) t ≡ termRow ts t

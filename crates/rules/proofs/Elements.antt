@@ -234,15 +234,6 @@ unfolding existential
 existential-range r d v h =
     let l = names-mem (keep-mem (λ (v : ℕ). member v (variablesOf d) && not (inBody r v)) names (member-mem v (existential r d) h) .0) in omega arith
 
-pub index-most : (v : ℕ) (xs : List ℕ) → index eqb v xs ≤ length xs
-unfolding index
-index-most v [] = omega arith
-index-most v (x ∷ xs) = go (index-most v xs) (case (eqb v x))
-  where
-    go : index eqb v xs ≤ length xs → (eqb v x ≡ true) ⊎ (eqb v x ≡ false) → index eqb v (x ∷ xs) ≤ suc (length xs)
-    go h (inl t) = rw (t, index) (omega arith)
-    go h (inr f) = rw (f, index) (omega arith)
-
 -- the last element of a set, from above
 
 pub none-above : (vs : List ℕ) (v : ℕ) → ((u : ℕ) → v < u → u < 8 → has (setOf vs) u ≡ false) → ((u : ℕ) → List·Memᴰ u vs → u < 8) → (u : ℕ) → List·Memᴰ u vs → u ≤ v

@@ -9,9 +9,10 @@ use Rattle.rules.specs.Functions.{functionsBefore, numberedOf}
 use Rattle.rules.proofs.Numbering.{numbered-place}
 use Rattle.model.specs.Lists.{index}
 use Rattle.laws.proofs.Rules.{existential-few}
+use Rattle.laws.proofs.Lists.{index-most}
 use Rattle.rules.specs.Sets.{has, elements}
 use Rattle.rules.proofs.Sets.{has-setOf}
-use Rattle.rules.proofs.Elements.{existential-elements, existential-range, index-most}
+use Rattle.rules.proofs.Elements.{existential-elements, existential-range}
 use Rattle.rules.proofs.Places.{few-rules, few-disjuncts}
 use borrow.Author.Needs.{needs}
 use Rattle.rules.proofs.functions.skolem_function.Statement.{statement}
@@ -91,7 +92,7 @@ add-result c =
     let w : c .wide .result ≡ functionsBefore f (i * 4 + d) = c .wide .ensures ∙ s .pre .1 .each (i * 4 + d) (omega arith) in
     let k = c .before .shared-slice-known3 .given (i * 4 + d) in
     let u = c .wide .ensures in
-    omega (arith, index-most (s .args .v) (existential r x), existential-few r x)
+    omega (arith, index-most eqb (s .args .v) (existential r x), existential-few r x)
 
 add-result-2 : tie.Need-add-result-2
 add-result-2 c =
@@ -109,7 +110,7 @@ add-result-2 c =
     let w : c .wide .result ≡ functionsBefore f (i * 4 + d) = c .wide .ensures ∙ s .pre .1 .each (i * 4 + d) (omega arith) in
     let k = c .before .shared-slice-known3 .given (i * 4 + d) in
     let u = c .wide .ensures in
-    omega (arith, index-most (s .args .v) (existential r x), existential-few r x)
+    omega (arith, index-most eqb (s .args .v) (existential r x), existential-few r x)
 
 returns : tie.Need-returns
 returns c =
