@@ -1,4 +1,5 @@
 pub mod Rows
+pub mod Hints
 pub mod Atoms
 pub mod Naming
 pub mod Variables
