@@ -12,14 +12,15 @@ pub mod Passing
 pub mod Disjuncts
 pub mod Placed
 pub mod Handled
+pub mod Oversize
 pub mod First
 pub mod Fronts
 pub mod Stays
 pub mod Unhandled
 pub mod Promises
 pub mod Trying
+pub mod Tried
 pub mod Tabling
-pub mod Finished
 pub mod Leavable
 pub mod After
 pub mod Skipping

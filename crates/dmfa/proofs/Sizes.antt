@@ -11,6 +11,7 @@ use Rattle.model.specs.Lists.{any}
 use Rattle.model.specs.Rules.{Rule, Entry, entries, entriesFrom, countSkolem, universal, blockable}
 use Rattle.model.specs.Form.{decoded}
 use Rattle.laws.proofs.Bools.{true-and}
+use Rattle.laws.proofs.Lists.{Distinct}
 use Rattle.rows.specs.Tables.{Rows}
 use Rattle.rows.specs.Triggers.{triggersAt}
 use Rattle.terms.specs.Rows.{rows}
@@ -19,7 +20,9 @@ use Rattle.terms.proofs.Tables.{rows-length}
 use Rattle.triggers.specs.Match.{Body, Searchable}
 use Rattle.triggers.specs.Next.{triggersFrom}
 use Rattle.triggers.specs.Encode.{spread}
+use Rattle.triggers.specs.Unhandled.{Apart}
 use Rattle.triggers.proofs.Encode.{triggers-are}
+use Rattle.triggers.proofs.Apart.{apart}
 use Rattle.rules.specs.Places.{Held, aritiesOf, rulesOf, ruleOf, atomRows, atomArities}
 use Rattle.rules.specs.Sets.{setOf}
 use Rattle.rules.proofs.Elements.{universal-elements}
@@ -28,7 +31,7 @@ use Rattle.stage_rows.specs.Judging.{total, sizeIn, tooLargeAt}
 use Rattle.dmfa.specs.Large.{placesOf, large, Tabled, tables}
 use Rattle.dmfa.proofs.Flat.{total-agree, any-agree, sizeIn-is}
 use Rattle.dmfa.proofs.Triggers.{trigger-below, trigger-spread}
-use Rattle.dmfa.proofs.Bodies.{bodyOf, encodes, small}
+use Rattle.dmfa.proofs.Bodies.{bodyOf, encodes, small, declared-arity}
 
 false-and : (a b : Bool) → b ≡ false → a && b ≡ false
 false-and true b e = e
@@ -53,7 +56,7 @@ arity-few form h p = go (decLt p (length (aritiesOf form)))
     go (no l) = let e = getD-beyond (aritiesOf form) p (omega arith) in omega arith
 
 -- a trigger of a rule over rows has more than 64 places
-pub largeOver : Rows → List ℕ → Bool
+unfoldable pub largeOver : Rows → List ℕ → Bool
 largeOver s m = ltb 64 (total (sizeIn (length (s .terms)) (s .terms)) m)
 
 -- a blockable rule has such a trigger
@@ -71,7 +74,7 @@ unfolding tooLargeAt largeRule largeOver entries rulesOf
 tooLargeAt-rules form s = largeRule-entries s 0 (decoded form .rules)
 
 module _ (form terms : List ℕ) (n : ℕ) (facts : List ℕ) (m : ℕ) (h : Tabled form terms n facts m) where
-  large-is : (r : Rule) {ms : List ℕ} → List·Memᴰ ms (triggersAt r n (rows 5 m facts))
+  pub large-is : (r : Rule) {ms : List ℕ} → List·Memᴰ ms (triggersAt r n (rows 5 m facts))
       → large terms (setOf (universal r)) (spread r ms) ≡ largeOver (tables terms n facts m) ms
   unfolding large placesOf largeOver tables
   large-is r {ms} k =
@@ -94,6 +97,13 @@ module _ (form terms : List ℕ) (n : ℕ) (facts : List ℕ) (m : ℕ) (h : Tab
           some = h .some;
         }
 
+    -- what is an atom of it is one fact, where the facts stand once
+    pub body-apart : Distinct (tables terms n facts m .facts) → (old : ℕ) → Apart (bodyOf (r .body)) facts m old
+    unfolding tables
+    body-apart once old =
+        apart (aritiesOf form) facts m old (h .padded) (h .room) once (bodyOf (r .body)) (body-searchable .body)
+        (declared-arity (r .body) (aritiesOf form) (arity-range form (h .held)) (rule-well-formed form (h .held) i l .body))
+
     -- what the search of the rule's body meets
     pub any-large-is : any (large terms (setOf (universal r))) (triggersFrom (bodyOf (r .body)) facts m n (replicate 8 0))
         ≡ any (largeOver (tables terms n facts m)) (triggersAt r (length (tables terms n facts m .terms)) (tables terms n facts m .facts))
@@ -108,18 +118,14 @@ module _ (form terms : List ℕ) (n : ℕ) (facts : List ℕ) (m : ℕ) (h : Tab
     -- a body as it comes out of the form, number by number
     module _ (atoms : List (List ℕ)) (arities : List ℕ) (count set : ℕ) (p : atoms ≡ atomRows (r .body)) (q : arities ≡ atomArities (r .body)) (c : count ≡ length (r .body))
         (e : set ≡ setOf (universal r)) where
-      is-body : record { atoms = atoms; arities = arities; count = count } ≡ bodyOf (r .body)
+      pub is-body : record { atoms = atoms; arities = arities; count = count } ≡ bodyOf (r .body)
       is-body = λ j. record { atoms = p j; arities = q j; count = c j }
 
       pub given-searchable : Searchable (record { atoms = atoms; arities = arities; count = count }) facts m n
       given-searchable = subst (λ (b : Body). Searchable b facts m n) (sym is-body) body-searchable
 
-      pub given-large : any (large terms set) (triggersFrom (record { atoms = atoms; arities = arities; count = count }) facts m n (replicate 8 0))
-          ≡ any (largeOver (tables terms n facts m)) (triggersAt r (length (tables terms n facts m .terms)) (tables terms n facts m .facts))
-      given-large =
-          ap (λ (b : Body). any (large terms set) (triggersFrom b facts m n (replicate 8 0))) is-body
-          ∙ ap (λ (k : ℕ). any (large terms k) (triggersFrom (bodyOf (r .body)) facts m n (replicate 8 0))) e
-          ∙ any-large-is
+      pub given-apart : Distinct (tables terms n facts m .facts) → (old : ℕ) → Apart (record { atoms = atoms; arities = arities; count = count }) facts m old
+      given-apart once old = subst (λ (b : Body). Apart b facts m old) (sym is-body) (body-apart once old)
 
 -- a rule has a large trigger, or not
 

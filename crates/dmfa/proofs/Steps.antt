@@ -10,29 +10,30 @@ use Rattle.model.specs.Lists.{any}
 use Rattle.laws.proofs.Bools.{or-left}
 use Rattle.triggers.specs.Order.{raise}
 use Rattle.triggers.specs.Match.{Body}
-use Rattle.triggers.specs.Next.{Next, triggersFrom, after}
+use Rattle.triggers.specs.Next.{after}
+use Rattle.triggers.specs.Unhandled.{unhandledFrom, NextUnhandled}
 use Rattle.dmfa.specs.Large.{placesOf, large}
 
 -- a turn more, as long as the search goes on
 abbrev pub turn : Bool → ℕ
 turn going = elim going [ true ↦ 1 | false ↦ 0 ]
 
-module _ {b : Body} {facts : List ℕ} {m n : ℕ} {start : List ℕ} {found : Bool} {xs : List ℕ} (next : Next b facts m n start found xs) where
+module _ {b : Body} {facts : List ℕ} {m old n : ℕ} {start : List ℕ} {found : Bool} {xs : List ℕ} (next : NextUnhandled b facts m old n start found xs) where
   module _ (p : List ℕ → Bool) where
-    pub next-passes : found ≡ true → p xs ≡ true → any p (triggersFrom b facts m n start) ≡ true
+    pub next-passes : found ≡ true → p xs ≡ true → any p (unhandledFrom b facts m old n start) ≡ true
     unfolding any
-    next-passes f e = ap (any p) (next .first f) ∙ or-left (p xs) (any p (triggersFrom b facts m n (after xs))) e
+    next-passes f e = ap (any p) (next .first f) ∙ or-left (p xs) (any p (unhandledFrom b facts m old n (after xs))) e
 
     pub next-fails : found ≡ true → p xs ≡ false
-        → any p (triggersFrom b facts m n start) ≡ any p (triggersFrom b facts m n (raise xs 7 (suc (getD xs 7 0))))
+        → any p (unhandledFrom b facts m old n start) ≡ any p (unhandledFrom b facts m old n (raise xs 7 (suc (getD xs 7 0))))
     unfolding any after
-    next-fails f e = ap (any p) (next .first f) ∙ ap (λ (c : Bool). c || any p (triggersFrom b facts m n (after xs))) e
+    next-fails f e = ap (any p) (next .first f) ∙ ap (λ (c : Bool). c || any p (unhandledFrom b facts m old n (after xs))) e
 
-    pub next-none : found ≡ false → any p (triggersFrom b facts m n start) ≡ false
+    pub next-none : found ≡ false → any p (unhandledFrom b facts m old n start) ≡ false
     unfolding any
     next-none f = ap (any p) (next .none f)
 
-  pub next-fewer : found ≡ true → length (triggersFrom b facts m n (raise xs 7 (suc (getD xs 7 0)))) < length (triggersFrom b facts m n start)
+  pub next-fewer : found ≡ true → length (unhandledFrom b facts m old n (raise xs 7 (suc (getD xs 7 0)))) < length (unhandledFrom b facts m old n start)
   unfolding after
   next-fewer f = let e = ap length (next .first f) in omega arith
 

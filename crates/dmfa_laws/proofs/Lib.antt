@@ -12,4 +12,3 @@ pub mod Judging
 pub mod Room
 pub mod Limits
 pub mod Standing
-pub mod Spent

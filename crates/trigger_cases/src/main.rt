@@ -1,5 +1,6 @@
 // Lists the triggers of small bodies over small sets of facts: a line for each, with the term number of each of the eight variables.
 use libc::STDOUT_FILENO;
+ghost use Prim.Native.Nat.{_≤_};
 ghost use Rattle.triggers.specs.Match.{Body, Searchable};
 
 fn print_assignment(assignment: [u16; 8]) {
@@ -21,11 +22,13 @@ fn print_triggers(
     count: usize,
     terms: u16,
 )
-    requires { ⌜ Searchable (record { atoms = body; arities = arities; count = atoms }) (now facts) count terms ⌝ }
+    requires { ⌜ Searchable (record { atoms = body; arities = arities; count = atoms }) (now facts) count terms × (count ≤ 8) ⌝ }
 {
+    let mut index = [0u16; 2600];
+    triggers::index::extend(facts, 0, count, &mut index);
     let mut start = [0u16; 8];
     loop {
-        let next = triggers::next_trigger(body, arities, atoms, start, facts, count, terms);
+        let next = triggers::next_trigger(body, arities, atoms, start, facts, count, terms, &index);
         if !next.found {
             return;
         }

@@ -72,7 +72,7 @@ fill-requires-2 : tie.Need-fill-requires-2
 fill-requires-2 c κs =
     let j = c .before .before .before .before .before .before .before .before .before in
     let f = few j in
-    let long : length (j .judge .last .1 .1 .1 .0) ≡ 10245 = j .judge .kept .1 .1 .1 .0 in
+    let long : length (j .judge .last .1 .1 .1 .0) ≡ 26629 = j .judge .kept .1 .1 .1 .0 in
     (omega (arith, f .1), omega (arith, f .1), j .before .before .before .before .before .before .before .before .before .before .pre .2)
 
 same-length : tie.Need-same-length

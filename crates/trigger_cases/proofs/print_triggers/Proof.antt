@@ -3,26 +3,42 @@ use mathlib.Core.Path.{_≡_, sym, ap, subst}
 use mathlib.Core.List.{List}
 use Prim.Native.Nat.{ℕ, _≤_}
 use native.Mathlib.Omega.{arith}
+use borrow.Author.Needs.{needs}
 use borrow.Author.Tests.{not-false}
 use lib.ListN.{length, getD}
 use Rattle.triggers.specs.Match.{Body}
 use Rattle.triggers.specs.Next.{triggersFrom, after}
 use Rattle.triggers.proofs.Order.{zeros-at}
 use Rattle.triggers.proofs.Search.{after-most}
+use Rattle.triggers.proofs.Entering.{indexed-zeros}
 use Rattle.trigger_cases.proofs.print_triggers.Statement.{statement}
 use Rattle.trigger_cases.proofs.print_triggers.Tie as tie
 
 abbrev Inv-loop : tie.InvT-loop
-Inv-loop body arities atoms facts count terms start₀ start = (i : ℕ) → getD start i 0 ≤ terms
+Inv-loop body arities atoms facts count terms index start₀ start = (i : ℕ) → getD start i 0 ≤ terms
 
 abbrev μ-loop : tie.MeasureT-loop
-μ-loop body arities atoms facts count terms start₀ start = length (triggersFrom (record { atoms = body; arities = arities; count = atoms }) facts count terms start)
+μ-loop body arities atoms facts count terms index start₀ start = length (triggersFrom (record { atoms = body; arities = arities; count = atoms }) facts count terms start)
+
+slice-aggregate-extend : tie.Need-slice-aggregate-extend Inv-loop μ-loop
+slice-aggregate-extend c = search needs
+
+extend-requires : tie.Need-extend-requires Inv-loop μ-loop
+extend-requires c κs =
+    let s = c .before .before in
+    let a = s .args in
+    (indexed-zeros (a .facts .now) 2600 (omega arith), omega arith, omega arith, s .pre .0 .room, search needs)
 
 loop-holds : tie.Need-loop-holds Inv-loop μ-loop
 loop-holds c = λ i. let e = zeros-at 8 i in omega arith
 
+slice-aggregate-next-trigger : tie.Need-slice-aggregate-next-trigger Inv-loop μ-loop
+slice-aggregate-next-trigger c = search needs
+
 next-trigger-requires : tie.Need-next-trigger-requires Inv-loop μ-loop
-next-trigger-requires c κs = (c .before .before .pre, c .loop .inv)
+next-trigger-requires c κs =
+    let s = c .before .before .before .before .before .before in
+    (s .pre .0, c .before .loop .inv, c .before .before .before .extend .ensures)
 
 returns : tie.Need-returns Inv-loop μ-loop
 returns c = tt
@@ -33,7 +49,7 @@ print-assignment-requires c κs = tt
 behind-requires : tie.Need-behind-requires Inv-loop μ-loop
 behind-requires c κs =
     let found = c .before .before .before .before .next-trigger in
-    let s = c .before .before .before .before .before .before .before in
+    let s = c .before .before .before .before .before .before .before .before .before .before .before in
     let x = found .ensures .within (not-false (found .result .found) (c .before .before .if1 .left)) 7 in
     let f = s .fits .terms in
     (omega arith, omega arith)
@@ -41,7 +57,7 @@ behind-requires c κs =
 loop-less : tie.Need-loop-less Inv-loop μ-loop
 unfolding after
 loop-less c =
-    let s = c .before .before .before .before .before .before .before .before in
+    let s = c .before .before .before .before .before .before .before .before .before .before .before .before in
     let a = s .args in
     let b : Body = record { atoms = a .body; arities = a .arities; count = a .atoms } in
     let found = c .before .before .before .before .before .next-trigger in
@@ -54,7 +70,7 @@ loop-less c =
 
 loop-again : tie.Need-loop-again Inv-loop μ-loop
 loop-again c =
-    let s = c .before .before .before .before .before .before .before .before in
+    let s = c .before .before .before .before .before .before .before .before .before .before .before .before in
     let found = c .before .before .before .before .before .next-trigger in
     let xs = found .result .assignment in
     λ i. subst (λ (ys : List ℕ). getD ys i 0 ≤ s .args .terms) (sym (c .behind .ensures)) (after-most (s .args .terms) xs (found .ensures .within (not-false (found .result .found) (c .before .before .before .if1 .left))) i)
@@ -65,7 +81,10 @@ print-triggers-spec =
     (tie.spec
     Inv-loop
     μ-loop
+    slice-aggregate-extend
+    extend-requires
     loop-holds
+    slice-aggregate-next-trigger
     next-trigger-requires
     returns
     print-assignment-requires
