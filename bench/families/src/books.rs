@@ -240,6 +240,13 @@ fn vectors(folder: &str) -> std::io::Result<Family> {
     Ok(Family { name: "Vectors", size: "rule sets", members: vec![(books.len(), books)] })
 }
 
+/// One vector, for the blocking tests that it stands for; its size counts them.
+fn tests(name: &'static str, folder: &str, file: &str) -> std::io::Result<Family> {
+    let bytes = std::fs::read(format!("{folder}/{file}.book"))?;
+    let count = reference::check(&bytes).seen.tested;
+    Ok(Family { name, size: "tests", members: vec![(count, vec![bytes])] })
+}
+
 pub fn families(folder: &str) -> std::io::Result<Vec<Family>> {
     Ok(vec![
         family("Crowd", "new variables", &[1, 2, 3, 4, 5, 6], crowd),
@@ -251,6 +258,8 @@ pub fn families(folder: &str) -> std::io::Result<Vec<Family>> {
         family("Limits", "rules", &[16, 32, 64], limits),
         family("Cross", "terms", &[3, 6, 12, 13], cross_first),
         family("Cross, last", "terms", &[1, 2, 4], cross_last),
+        tests("Tests of up to 63 places", folder, "fork-5")?,
+        tests("Test of 1,024 facts", folder, "test-set-1024")?,
         vectors(folder)?,
     ])
 }
