@@ -18,7 +18,7 @@ pub mod Fronts
 pub mod Stays
 pub mod Unhandled
 pub mod Promises
-pub mod Trying
+pub mod TestsFit
 pub mod Tried
 pub mod Tabling
 pub mod Leavable

@@ -1,7 +1,6 @@
 // Cyclic terms of the next stage: the first row whose function stands in an argument. The contracts cite specs/Looping, and Making of stage_rows.
 ghost use mathlib.Core.Path.{_≡_};
 ghost use Prim.Native.Nat.{_≤_};
-ghost use lib.ListN.{length};
 ghost use Rattle.model.specs.Lists.{numbersFrom};
 ghost use Rattle.terms.specs.Rows.{rows};
 ghost use Rattle.terms.specs.Terms.{Ordered};

@@ -1,7 +1,6 @@
 // What stands for the existential variables of a disjunct: their Skolem functions, and the row of their Skolem terms. The contracts cite
 // specs/Skolem.
 ghost use mathlib.Core.Path.{_≡_};
-ghost use mathlib.Core.Bool.{Bool, true, false};
 ghost use Prim.Native.Nat.{ℕ, _<_, _+_};
 ghost use lib.ListN.{getD};
 ghost use Rattle.rules.specs.Sets.{elements};

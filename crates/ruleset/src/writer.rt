@@ -5,7 +5,7 @@ use crate::Transfer;
 use crate::faults;
 ghost use mathlib.Core.Path.{_≡_};
 ghost use mathlib.Core.List.{List, [], _∷_, _++_};
-ghost use Prim.Native.Nat.{ℕ, _+_, _-_, _≤_, _<_};
+ghost use Prim.Native.Nat.{_+_, _-_, _≤_, _<_};
 ghost use lib.ListN.{length, getD, drop};
 ghost use Rattle.model.specs.Lists.{numbersFrom, collect};
 ghost use Rattle.model.specs.Rules.{Atom};

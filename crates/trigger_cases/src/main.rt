@@ -1,7 +1,7 @@
 // Lists the triggers of small bodies over small sets of facts: a line for each, with the term number of each of the eight variables.
 use libc::STDOUT_FILENO;
 ghost use Prim.Native.Nat.{_≤_};
-ghost use Rattle.triggers.specs.Match.{Body, Searchable};
+ghost use Rattle.triggers.specs.Match.{Searchable};
 
 fn print_assignment(assignment: [u16; 8]) {
     let mut line = [b' '; 16];
