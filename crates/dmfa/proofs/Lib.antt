@@ -29,3 +29,5 @@ pub mod Visits
 pub mod Rules
 pub mod Settling
 pub mod Checking
+pub mod Later
+pub mod Pinning

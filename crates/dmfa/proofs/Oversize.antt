@@ -16,9 +16,9 @@ use Rattle.terms.proofs.Tables.{rows-length}
 use Rattle.triggers.specs.Match.{Body, holdsRow}
 use Rattle.triggers.specs.Next.{triggersFrom}
 use Rattle.triggers.specs.Encode.{spread}
-use Rattle.triggers.specs.Unhandled.{unhandledFrom}
+use Rattle.unhandled.specs.Unhandled.{unhandledFrom}
 use Rattle.triggers.proofs.Encode.{triggers-are}
-use Rattle.triggers.proofs.Onward.{unhandled-kept}
+use Rattle.unhandled.proofs.Onward.{unhandled-kept}
 use Rattle.rules.specs.Places.{aritiesOf, rulesOf, ruleOf, atomRows, atomArities}
 use Rattle.rules.specs.Sets.{setOf}
 use Rattle.rules.proofs.Places.{rule-well-formed}

@@ -20,9 +20,9 @@ use Rattle.terms.proofs.Tables.{rows-length}
 use Rattle.triggers.specs.Match.{Body, Searchable}
 use Rattle.triggers.specs.Next.{triggersFrom}
 use Rattle.triggers.specs.Encode.{spread}
-use Rattle.triggers.specs.Unhandled.{Apart}
+use Rattle.unhandled.specs.Unhandled.{Apart}
 use Rattle.triggers.proofs.Encode.{triggers-are}
-use Rattle.triggers.proofs.Apart.{apart}
+use Rattle.unhandled.proofs.Apart.{apart}
 use Rattle.rules.specs.Places.{Held, aritiesOf, rulesOf, ruleOf, atomRows, atomArities}
 use Rattle.rules.specs.Sets.{setOf}
 use Rattle.rules.proofs.Elements.{universal-elements}

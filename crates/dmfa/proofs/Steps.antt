@@ -11,7 +11,7 @@ use Rattle.laws.proofs.Bools.{or-left}
 use Rattle.triggers.specs.Order.{raise}
 use Rattle.triggers.specs.Match.{Body}
 use Rattle.triggers.specs.Next.{after}
-use Rattle.triggers.specs.Unhandled.{unhandledFrom, NextUnhandled}
+use Rattle.unhandled.specs.Unhandled.{unhandledFrom, NextUnhandled}
 use Rattle.dmfa.specs.Large.{placesOf, large}
 
 -- a turn more, as long as the search goes on

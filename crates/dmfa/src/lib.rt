@@ -31,9 +31,9 @@ fn check_form(form: &[u16], terms: &mut [u16], facts: &mut [u16]) -> Verdict
 {
     let mut before = [0u16; 256];
     rules::functions::number_functions(form, &mut before[..]);
-    // room for 8,708 terms and 2,049 facts, all that can be made of a stage, and for 16,384 hints behind the facts
+    // room for 8,708 terms and 2,049 facts, all that can be made of a stage; behind the facts a link for each, and 4,096 buckets
     let mut stage_terms = [0u16; 87080];
-    let mut stage_facts = [0u16; 26629];
+    let mut stage_facts = [0u16; 16390];
     let answer = judge(
         form,
         &before[..],

@@ -12,3 +12,4 @@ pub mod Judging
 pub mod Room
 pub mod Limits
 pub mod Standing
+pub mod Again

@@ -1,3 +1,4 @@
 pub mod Agree
 pub mod Again
 pub mod Passed
+pub mod Kept

@@ -7,6 +7,7 @@ use lib.ListN.{length, drop, replicate}
 use Rattle.rules.specs.Functions.{places, Numbered}
 use Rattle.rules.proofs.Places.{few-rules}
 use Rattle.rules.proofs.Numbering.{numbering-numbered}
+use Rattle.outputs.proofs.Kept.{kept-none}
 use Rattle.dmfa.proofs.Checking.{answer-few, answer-left}
 use borrow.Author.Needs.{needs}
 use Rattle.dmfa.proofs.check_form.Statement.{statement}
@@ -43,7 +44,7 @@ judge-requires c κs =
     let d = c .before .before .before .before .number-functions in
     let long : length (d .last .1 .0) ≡ 256 = d .kept .1 .0 in
     let room : places f ≤ length (d .last .1 .0) = omega (arith, few-rules f (s .pre .0)) in
-    (s .pre .0, subst (Numbered f) (sym (d .ensures .1)) (numbering-numbered f (drop (places f) (replicate 256 0)) (subst (λ (l : List ℕ). places f ≤ length l) (d .ensures .1) room)), omega arith, omega arith)
+    (s .pre .0, subst (Numbered f) (sym (d .ensures .1)) (numbering-numbered f (drop (places f) (replicate 256 0)) (subst (λ (l : List ℕ). places f ≤ length l) (d .ensures .1) room)), omega arith, kept-none 16390 2049 (omega arith) (omega arith))
 
 slice-aggregate-fill : tie.Need-slice-aggregate-fill
 slice-aggregate-fill c = search needs
@@ -72,7 +73,7 @@ fill-requires-2 : tie.Need-fill-requires-2
 fill-requires-2 c κs =
     let j = c .before .before .before .before .before .before .before .before .before in
     let f = few j in
-    let long : length (j .judge .last .1 .1 .1 .0) ≡ 26629 = j .judge .kept .1 .1 .1 .0 in
+    let long : length (j .judge .last .1 .1 .1 .0) ≡ 16390 = j .judge .kept .1 .1 .1 .0 in
     (omega (arith, f .1), omega (arith, f .1), j .before .before .before .before .before .before .before .before .before .before .pre .2)
 
 same-length : tie.Need-same-length

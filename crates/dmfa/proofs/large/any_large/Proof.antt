@@ -9,9 +9,9 @@ use lib.ListN.{length, getD}
 use Rattle.model.specs.Lists.{any}
 use Rattle.laws.proofs.Bools.{not-both}
 use Rattle.triggers.specs.Match.{Body}
-use Rattle.triggers.specs.Unhandled.{unhandledFrom, Streaming}
+use Rattle.unhandled.specs.Unhandled.{unhandledFrom, Streaming}
 use Rattle.triggers.proofs.Order.{zeros-at}
-use Rattle.triggers.proofs.Onward.{next-is, streaming-behind}
+use Rattle.unhandled.proofs.Onward.{next-is, streaming-behind}
 use Rattle.dmfa.specs.Large.{large}
 use Rattle.dmfa.proofs.Triggers.{behind-most}
 use Rattle.dmfa.proofs.Steps.{turn, next-passes, next-fails, next-none, next-fewer, large-yes, large-no}

@@ -12,15 +12,18 @@ use Rattle.terms.specs.Rows.{rows}
 use Rattle.rules.proofs.Lists.{any-found, any-passed, any-end}
 use Rattle.blocking.specs.Copies.{argumentsIn}
 use Rattle.stage_rows.specs.Making.{cyclicRow}
-use Rattle.dmfa.proofs.Cyclic.{arguments-length, arguments-at, cyclic-marked}
+use Rattle.dmfa.proofs.Cyclic.{ordered-front, arguments-length, arguments-at, cyclic-marked}
 use Rattle.dmfa.proofs.looping.is_cyclic.Statement.{statement}
 use Rattle.dmfa.proofs.looping.is_cyclic.Tie as tie
 
 abbrev Inv-loop : tie.InvT-loop
-Inv-loop terms n row marks arity j₀ j = (arity ≡ getD row 1 0) × (j ≤ arity) × (length marks ≡ 512) × (cyclicRow (rows 10 n terms) row ≡ any (λ (a : ℕ). getD marks a false) (drop j (argumentsIn row)))
+Inv-loop terms n row marks count arity j₀ j = (arity ≡ getD row 1 0) × (j ≤ arity) × (length marks ≡ 512) × (cyclicRow (rows 10 n terms) row ≡ any (λ (a : ℕ). getD marks a false) (drop j (argumentsIn row)))
 
 abbrev μ-loop : tie.MeasureT-loop
-μ-loop terms n row marks arity j₀ j = arity - j
+μ-loop terms n row marks count arity j₀ j = arity - j
+
+reach-requires : tie.Need-reach-requires Inv-loop μ-loop
+reach-requires c κs = c .before .pre .2 .few
 
 array-read-mark-occurrences : tie.Need-array-read-mark-occurrences Inv-loop μ-loop
 array-read-mark-occurrences c = omega arith
@@ -29,7 +32,12 @@ slice-aggregate-mark-occurrences : tie.Need-slice-aggregate-mark-occurrences Inv
 slice-aggregate-mark-occurrences c = search needs
 
 mark-occurrences-requires : tie.Need-mark-occurrences-requires Inv-loop μ-loop
-mark-occurrences-requires c κs = let s = c .before .before in (s .pre .0, s .pre .1)
+mark-occurrences-requires c κs =
+    let r = c .before .reach in
+    let s = c .before .before .before in
+    let h = r .ensures .1 (s .args .n) (s .pre .2) in
+    let few = s .pre .1 in
+    (ordered-front (r .result) h (s .pre .0), omega arith)
 
 array-read-arity : tie.Need-array-read-arity Inv-loop μ-loop
 array-read-arity c = omega arith
@@ -39,14 +47,15 @@ cast-arity c = omega arith
 
 loop-holds : tie.Need-loop-holds Inv-loop μ-loop
 loop-holds c =
-    let s = c .before .before .before .before in
+    let s = c .before .before .before .before .before in
     let a = s .args in
     let m = c .before .mark-occurrences in
+    let r = c .before .before .before .reach in
     let long : length (a .t3) ≡ 10 = search needs in (
       refl,
       omega arith,
       search needs,
-      cyclic-marked (a .t3) long (s .pre .0) (s .pre .2) (m .last .1 .1 .1 .0) _ (m .ensures),
+      cyclic-marked (a .t3) long (s .pre .0) (r .ensures .1 (a .n) (s .pre .2)) (r .ensures .0) (m .last .1 .1 .1 .0) _ (m .ensures),
     )
 
 add-if1 : tie.Need-add-if1 Inv-loop μ-loop
@@ -61,19 +70,19 @@ array-read-if1 c = omega arith
 cast-if1 : tie.Need-cast-if1 Inv-loop μ-loop
 cast-if1 c =
     let l = c .before in
-    let s = l .before .before .before .before .before in
+    let s = l .before .before .before .before .before .before in
     omega (arith, s .pre .2 .within (l .loop .j) (omega arith))
 
 array-read-if1-2 : tie.Need-array-read-if1-2 Inv-loop μ-loop
 array-read-if1-2 c =
     let l = c .before in
-    let s = l .before .before .before .before .before in
+    let s = l .before .before .before .before .before .before in
     omega (arith, s .pre .2 .within (l .loop .j) (omega arith))
 
 returns : tie.Need-returns Inv-loop μ-loop
 returns c =
     let l = c .before .before in
-    let s = l .before .before .before .before .before in
+    let s = l .before .before .before .before .before .before in
     let a = s .args in
     let m : List Bool = l .before .before .mark-occurrences .last .1 .1 .1 .0 in
     let long : length (a .t3) ≡ 10 = search needs in
@@ -90,7 +99,7 @@ loop-less c = omega arith
 loop-again : tie.Need-loop-again Inv-loop μ-loop
 loop-again c =
     let l = c .before .before in
-    let s = l .before .before .before .before .before in
+    let s = l .before .before .before .before .before .before in
     let a = s .args in
     let m : List Bool = l .before .before .mark-occurrences .last .1 .1 .1 .0 in
     let long : length (a .t3) ≡ 10 = search needs in
@@ -106,7 +115,7 @@ loop-again c =
 returns-2 : tie.Need-returns-2 Inv-loop μ-loop
 returns-2 c =
     let l = c .before in
-    let s = l .before .before .before .before .before in
+    let s = l .before .before .before .before .before .before in
     let a = s .args in
     let m : List Bool = l .before .before .mark-occurrences .last .1 .1 .1 .0 in
     let long : length (a .t3) ≡ 10 = search needs in
@@ -118,6 +127,7 @@ is-cyclic-spec =
     (tie.spec
     Inv-loop
     μ-loop
+    reach-requires
     array-read-mark-occurrences
     slice-aggregate-mark-occurrences
     mark-occurrences-requires
