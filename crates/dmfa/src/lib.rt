@@ -2,13 +2,6 @@
 pub mod critical;
 pub mod front;
 pub mod judging;
-pub mod large;
-pub mod looping;
-pub mod making;
-pub mod output;
-pub mod plain;
-pub mod stage;
-pub mod tested;
 
 use crate::front::fill;
 use crate::judging::judge;

@@ -1,0 +1,5 @@
+pub mod Large
+pub mod Looping
+pub mod Making
+pub mod Stage
+pub mod Tested

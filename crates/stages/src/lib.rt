@@ -1,0 +1,9 @@
+// One stage made of another: refusal 11, and the output of each trigger that is not blocked. The contracts cite the definitions over rows of
+// `stage_rows`.
+pub mod large;
+pub mod looping;
+pub mod making;
+pub mod output;
+pub mod plain;
+pub mod stage;
+pub mod tested;
