@@ -8,6 +8,7 @@ pub mod Flat
 pub mod Going
 pub mod Handled
 pub mod Later
+pub mod Most
 pub mod Oversize
 pub mod Passing
 pub mod Pinning

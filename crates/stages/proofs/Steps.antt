@@ -2,7 +2,7 @@
 use mathlib.Core.Path.{_≡_, ap, _∙_}
 use mathlib.Core.Bool.{Bool, true, false, _||_}
 use mathlib.Core.List.{List}
-use Prim.Native.Nat.{ℕ, suc, min, _<_}
+use Prim.Native.Nat.{ℕ, suc, min, _≤_, _<_}
 use native.Mathlib.Omega.{arith}
 use lib.ListN.{length, getD}
 use borrow.Author.Tests.{lt-ltb, le-ltb}
@@ -17,6 +17,11 @@ use Rattle.stages.specs.Large.{placesOf, large}
 -- a turn more, as long as the search goes on
 abbrev pub turn : Bool → ℕ
 turn going = elim going [ true ↦ 1 | false ↦ 0 ]
+
+-- that is one at most
+pub turn-most : (going : Bool) → turn going ≤ 1
+turn-most true = omega arith
+turn-most false = omega arith
 
 module _ {b : Body} {facts : List ℕ} {m old n : ℕ} {start : List ℕ} {found : Bool} {xs : List ℕ} (next : NextUnhandled b facts m old n start found xs) where
   module _ (p : List ℕ → Bool) where

@@ -1,5 +1,6 @@
 // One stage made of another: refusal 11, and the output of each trigger that is not blocked. The contracts cite the definitions over rows of
 // `stage_rows`.
+pub mod idle;
 pub mod large;
 pub mod looping;
 pub mod making;

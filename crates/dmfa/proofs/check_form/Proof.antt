@@ -1,24 +1,28 @@
--- `dmfa::check_form` meets its contract. Assumes nothing.
-use mathlib.Core.Path.{_≡_, sym, subst}
+-- `dmfa::check_form` meets its contract: by a small table of terms, or where it was short by a large one. Assumes nothing.
+use mathlib.Core.Path.{_≡_, sym, ap₂, _∙_, subst}
 use mathlib.Core.List.{List}
 use Prim.Native.Nat.{ℕ, _≤_}
 use native.Mathlib.Omega.{arith}
 use lib.ListN.{length, drop, replicate}
+use Rattle.model.specs.Form.{decoded}
 use Rattle.rules.specs.Functions.{places, Numbered}
 use Rattle.rules.proofs.Places.{few-rules}
 use Rattle.rules.proofs.Numbering.{numbering-numbered}
-use Rattle.outputs.proofs.Kept.{kept-none}
-use Rattle.dmfa.proofs.Checking.{answer-few, answer-left}
+use Rattle.stage_rows.specs.Judging.{judged}
+use Rattle.dmfa_laws.proofs.Judging.{leftBy}
 use borrow.Author.Needs.{needs}
 use Rattle.dmfa.proofs.check_form.Statement.{statement}
 use Rattle.dmfa.proofs.check_form.Tie as tie
 
--- the counts of the answer are within the limits
-few : (j : tie.After-judge) → (j .judge .result .terms ≤ 513) × (j .judge .result .facts ≤ 2048)
-few j =
-    let s = j .before .before .before .before .before .before .before .before .before .before in
-    let d = j .judge in
-    answer-few (s .args .form .now) (s .pre .0) (d .result .verdict) (d .last .1 .1 .0) (d .result .terms) (d .last .1 .1 .1 .0) (d .result .facts) (d .ensures)
+-- the functions are numbered
+numbered : (j : tie.After-number-functions) → Numbered (j .before .before .before .before .before .args .form .now) (j .number-functions .last .1 .0)
+numbered j =
+    let s = j .before .before .before .before .before in
+    let f = s .args .form .now in
+    let d = j .number-functions in
+    let long : length (d .last .1 .0) ≡ 256 = d .kept .1 .0 in
+    let room : places f ≤ length (d .last .1 .0) = omega (arith, few-rules f (s .pre .0)) in
+    subst (Numbered f) (sym (d .ensures .1)) (numbering-numbered f (drop (places f) (replicate 256 0)) (subst (λ (l : List ℕ). places f ≤ length l) (d .ensures .1) room))
 
 slice-aggregate-number-functions : tie.Need-slice-aggregate-number-functions
 slice-aggregate-number-functions c = search needs
@@ -28,69 +32,41 @@ number-functions-requires c κs =
     let s = c .before .before .before .before in
     (s .pre .0, omega (arith, few-rules (s .args .form .now) (s .pre .0)))
 
-slice-aggregate-judge : tie.Need-slice-aggregate-judge
-slice-aggregate-judge c = search needs
+slice-aggregate-check-small : tie.Need-slice-aggregate-check-small
+slice-aggregate-check-small c = search needs
 
-slice-aggregate-judge-2 : tie.Need-slice-aggregate-judge-2
-slice-aggregate-judge-2 c = search needs
+check-small-requires : tie.Need-check-small-requires
+check-small-requires c κs = let s = c .before .before .before .before .before .before .before .before .before in (s .pre .0, numbered (c .before .before .before .before), s .pre .1, s .pre .2)
 
-slice-aggregate-judge-3 : tie.Need-slice-aggregate-judge-3
-slice-aggregate-judge-3 c = search needs
+slice-aggregate-check-large : tie.Need-slice-aggregate-check-large
+slice-aggregate-check-large c = search needs
 
-judge-requires : tie.Need-judge-requires
-judge-requires c κs =
-    let s = c .before .before .before .before .before .before .before .before .before in
-    let f = s .args .form .now in
-    let d = c .before .before .before .before .number-functions in
-    let long : length (d .last .1 .0) ≡ 256 = d .kept .1 .0 in
-    let room : places f ≤ length (d .last .1 .0) = omega (arith, few-rules f (s .pre .0)) in
-    (s .pre .0, subst (Numbered f) (sym (d .ensures .1)) (numbering-numbered f (drop (places f) (replicate 256 0)) (subst (λ (l : List ℕ). places f ≤ length l) (d .ensures .1) room)), omega arith, kept-none 16390 2049 (omega arith) (omega arith))
-
-slice-aggregate-fill : tie.Need-slice-aggregate-fill
-slice-aggregate-fill c = search needs
-
-mul-fill : tie.Need-mul-fill
-mul-fill c =
-    let f = few (c .before .before .before) in
-    omega (arith, f .0)
-
-fill-requires : tie.Need-fill-requires
-fill-requires c κs =
-    let j = c .before .before .before .before in
-    let f = few j in
-    let long : length (j .judge .last .1 .1 .0) ≡ 87080 = j .judge .kept .1 .1 .0 in
-    (omega (arith, f .0), omega (arith, f .0), j .before .before .before .before .before .before .before .before .before .before .pre .1)
-
-slice-aggregate-fill-2 : tie.Need-slice-aggregate-fill-2
-slice-aggregate-fill-2 c = search needs
-
-mul-fill-2 : tie.Need-mul-fill-2
-mul-fill-2 c =
-    let f = few (c .before .before .before .before .before .before .before .before) in
-    omega (arith, f .1)
-
-fill-requires-2 : tie.Need-fill-requires-2
-fill-requires-2 c κs =
-    let j = c .before .before .before .before .before .before .before .before .before in
-    let f = few j in
-    let long : length (j .judge .last .1 .1 .1 .0) ≡ 16390 = j .judge .kept .1 .1 .1 .0 in
-    (omega (arith, f .1), omega (arith, f .1), j .before .before .before .before .before .before .before .before .before .before .pre .2)
+check-large-requires : tie.Need-check-large-requires
+check-large-requires c κs =
+    let d = c .before .before .before .before .before .before .before .before .check-small in
+    let s = c .before .before .before .before .before .before .before .before .before .before .before .before .before .before .before .before .before .before in
+    (s .pre .0, numbered (c .before .before .before .before .before .before .before .before .before .before .before .before .before), omega (arith, d .kept .1 .1 .0, s .pre .1), omega (arith, d .kept .1 .1 .1 .0, s .pre .2))
 
 same-length : tie.Need-same-length
-same-length c = search needs
+same-length c = c .before .before .before .before .check-large .kept .1 .1 .0 ∙ c .before .before .before .before .before .before .before .before .before .before .before .before .before .check-small .kept .1 .1 .0
 
 same-length-2 : tie.Need-same-length-2
-same-length-2 c = search needs
+same-length-2 c = c .before .before .before .before .check-large .kept .1 .1 .1 .0 ∙ c .before .before .before .before .before .before .before .before .before .before .before .before .before .check-small .kept .1 .1 .1 .0
 
 returns : tie.Need-returns
 returns c =
-    let j = c .before .before .before .before .before .before .before .before .before .before .before .before in
-    let s = j .before .before .before .before .before .before .before .before .before .before in
-    let d = j .judge in
-    let p = c .before .before .before .before .before .before .before .fill in
-    let q = c .before .before .fill2 in
-    answer-left (s .args .form .now) (s .pre .0) (d .result .verdict) (d .last .1 .1 .0) (d .result .terms) (d .last .1 .1 .1 .0) (d .result .facts) (d .ensures) (s .args .terms .now)
-    (s .args .facts .now) (p .last .1 .1 .1 .0) (q .last .1 .1 .1 .0) (p .ensures) (q .ensures)
+    let s = c .before .before .before .before .before .before .before .before .before .before .before .before .before .before .before .before .before .before .before .before .before .before .before in
+    let (p, q) = c .before .before .before .before .before .before .before .before .before .before .before .before .before .check-small .ensures .1 (c .before .before .before .before .before .before .before .before .if1 .taken) in
+    c .before .before .before .before .check-large .ensures ∙ ap₂ (leftBy (judged (decoded (s .args .form .now)))) p q
+
+same-length-3 : tie.Need-same-length-3
+same-length-3 c = search needs
+
+same-length-4 : tie.Need-same-length-4
+same-length-4 c = search needs
+
+returns-2 : tie.Need-returns-2
+returns-2 c = c .before .before .before .before .before .check-small .ensures .0 (c .if1 .left)
 
 pub check-form-spec : {M : Type 1} → statement M
 check-form-spec =
@@ -98,16 +74,13 @@ check-form-spec =
     (tie.spec
     slice-aggregate-number-functions
     number-functions-requires
-    slice-aggregate-judge
-    slice-aggregate-judge-2
-    slice-aggregate-judge-3
-    judge-requires
-    slice-aggregate-fill
-    mul-fill
-    fill-requires
-    slice-aggregate-fill-2
-    mul-fill-2
-    fill-requires-2
+    slice-aggregate-check-small
+    check-small-requires
+    slice-aggregate-check-large
+    check-large-requires
     same-length
     same-length-2
-    returns)
+    returns
+    same-length-3
+    same-length-4
+    returns-2)
