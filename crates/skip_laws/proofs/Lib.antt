@@ -1,5 +1,5 @@
 pub mod Agree
 pub mod Again
 pub mod Passed
-pub mod Kept
+pub mod Done
 pub mod Full
