@@ -16,9 +16,9 @@ use Rattle.rules.specs.Places.{aritiesOf, rulesOf, ruleOf}
 use Rattle.rules.proofs.Places.{rule-well-formed}
 use Rattle.stage_rows.specs.Making.{handled}
 use Rattle.stages.specs.Large.{Tabled, tables}
-use Rattle.stages.proofs.Bodies.{bodyOf, encodes}
+use Rattle.making.proofs.Bodies.{bodyOf, encodes}
 use Rattle.stages.proofs.Sizes.{arity-few}
-use Rattle.stages.proofs.Entering.{rows-taken}
+use Rattle.making.proofs.Entering.{rows-taken}
 
 pub handled-is : (form terms : List ℕ) (n : ℕ) (facts : List ℕ) (m : ℕ) → Tabled form terms n facts m → (old : ℕ) → old ≤ m → (i : ℕ) → i < length (rulesOf form) → (ms : List ℕ)
     → holdsRow (bodyOf (ruleOf form i .body)) facts old (spread (ruleOf form i) ms) ≡ handled (record { rows = tables terms n facts m; old = old }) (ruleOf form i) ms

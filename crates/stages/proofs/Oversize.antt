@@ -24,7 +24,7 @@ use Rattle.rules.specs.Sets.{setOf}
 use Rattle.rules.proofs.Places.{rule-well-formed}
 use Rattle.stages.specs.Large.{large, Tabled, tables}
 use Rattle.stages.specs.Stage.{stageOf, Tried}
-use Rattle.stages.proofs.Bodies.{bodyOf, encodes}
+use Rattle.making.proofs.Bodies.{bodyOf, encodes}
 use Rattle.stages.proofs.Sizes.{arity-few, largeOver, large-is, any-large-is, is-body}
 use Rattle.stages.proofs.Handled.{handled-is}
 

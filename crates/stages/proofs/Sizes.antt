@@ -29,9 +29,9 @@ use Rattle.rules.proofs.Elements.{universal-elements}
 use Rattle.rules.proofs.Places.{arity-range, rule-well-formed}
 use Rattle.stage_rows.specs.Judging.{total, sizeIn, tooLargeAt}
 use Rattle.stages.specs.Large.{placesOf, large, Tabled, tables}
-use Rattle.stages.proofs.Flat.{total-agree, any-agree, sizeIn-is}
+use Rattle.making.proofs.Flat.{total-agree, any-agree, sizeIn-is}
 use Rattle.stages.proofs.Triggers.{trigger-below, trigger-spread}
-use Rattle.stages.proofs.Bodies.{bodyOf, encodes, small, declared-arity}
+use Rattle.making.proofs.Bodies.{bodyOf, encodes, small, declared-arity}
 
 false-and : (a b : Bool) → b ≡ false → a && b ≡ false
 false-and true b e = e

@@ -1,5 +1,3 @@
 pub mod Large
-pub mod Looping
-pub mod Making
 pub mod Stage
 pub mod Tested

@@ -2,9 +2,6 @@
 // `stage_rows`.
 pub mod idle;
 pub mod large;
-pub mod looping;
-pub mod making;
-pub mod output;
 pub mod plain;
 pub mod stage;
 pub mod tested;

@@ -1,0 +1,181 @@
+-- Cyclic rows: by marks of the terms in which their function stands; and the first of them, row by row. Assumes nothing.
+use mathlib.Core.Path.{_≡_, refl, sym, ap, _∙_, subst}
+use mathlib.Core.Bool.{Bool, true, false}
+use mathlib.Core.Logic.{_⊎_, inl, inr}
+use mathlib.Core.List.{List, [], _∷_, _++_, append-nil, List·Memᴰ}
+use Prim.Native.Nat.{ℕ, _+_, _≤_, _<_}
+use native.Mathlib.Nat.{zero-add}
+use native.Mathlib.Numerals.{add-one}
+use native.Mathlib.Omega.{arith}
+use lib.Dec.{eqb}
+use lib.ListN.{length, getD, drop, set, length-drop, List·getD-append}
+use lib.Seq.{length-take-le, getD-take, getD-drop, getD-set-other}
+use borrow.Author.Tests.{eq-eqb, ne-eqb, eqb-true}
+use Rattle.model.specs.Lists.{any, collect, numbersFrom}
+use Rattle.laws.proofs.Bools.{case}
+use Rattle.laws.proofs.Lists.{collect-append}
+use Rattle.terms.specs.Rows.{rows}
+use Rattle.terms.specs.Terms.{Ordered, occursAt, occurrences}
+use Rattle.terms.proofs.Terms.{occurrences-length, occurrences-at}
+use Rattle.terms.proofs.Tables.{rows-length}
+use Rattle.triggers.proofs.Lists.{mem-getD}
+use Rattle.outputs.proofs.Atoms.{numbersFrom-snoc}
+use Rattle.blocking.specs.Copies.{argumentsIn}
+use Rattle.stage_rows.specs.Making.{occursIn, cyclicRow, firstCyclic}
+use Rattle.making.specs.Looping.{loopOf, Arguments, rowWith, rowsWith}
+use Rattle.making.proofs.Flat.{any-agree, occursIn-is}
+
+-- the first terms of a table by themselves
+pub ordered-front : {n : ℕ} {t : List ℕ} (k : ℕ) → k ≤ n → Ordered n t → Ordered k t
+ordered-front k h o =
+    record { room = let r = o .room in omega arith; arity = λ i l. o .arity i (omega arith); before = λ i j l m. o .before i j (omega arith) m }
+
+module _ (row : List ℕ) (long : length row ≡ 10) where
+  pub arguments-length : getD row 1 0 ≤ 8 → length (argumentsIn row) ≡ getD row 1 0
+  unfolding argumentsIn
+  arguments-length h = length-take-le (getD row 1 0) (drop 2 row) (omega (arith, length-drop 2 row))
+
+  pub arguments-at : (j : ℕ) → j < getD row 1 0 → getD (argumentsIn row) j 0 ≡ getD row (j + 2) 0
+  unfolding argumentsIn
+  arguments-at j h =
+      let e : 2 + j ≡ j + 2 = omega arith in
+      getD-take (getD row 1 0) (drop 2 row) j 0 h ∙ getD-drop 2 row j 0 ∙ ap (λ (k : ℕ). getD row k 0) e
+
+  -- with marks for the terms in which the row's function stands, of the first k, which the arguments are among
+  pub cyclic-marked : {n k : ℕ} {t : List ℕ} → Ordered n t → k ≤ n → Arguments k row → (marks rest : List Bool) → marks ≡ occurrences t (getD row 0 0) 0 k ++ rest
+      → cyclicRow (rows 10 n t) row ≡ any (λ (a : ℕ). getD marks a false) (argumentsIn row)
+  unfolding cyclicRow
+  cyclic-marked {n} {k} {t} o few h marks rest e =
+      any-agree (occursIn (length (rows 10 n t)) (rows 10 n t) f) (λ (a : ℕ). getD marks a false) (argumentsIn row) (λ a m. each a (below a m))
+    where
+      f : ℕ
+      f = getD row 0 0
+
+      below : (a : ℕ) → List·Memᴰ a (argumentsIn row) → a < k
+      below a m =
+          let (j, l, at) = mem-getD 0 m in
+          let i : j < getD row 1 0 = omega (arith, arguments-length (h .few)) in
+          omega (arith, h .within j i, arguments-at j i)
+
+      each : (a : ℕ) → a < k → occursIn (length (rows 10 n t)) (rows 10 n t) f a ≡ getD marks a false
+      each a l =
+          occursIn-is o (length (rows 10 n t)) f a (omega arith) (omega (arith, rows-length 10 n t))
+          ∙ sym (ap (λ (ms : List Bool). getD ms a false) e
+          ∙ List·getD-append (occurrences t f 0 k) rest false a (omega (arith, occurrences-length t f 0 k))
+          ∙ occurrences-at t f 0 k a l
+          ∙ ap (occursAt t f) (zero-add a))
+
+-- a row with another function has the same arguments
+pub arguments-set : {n : ℕ} {template : List ℕ} (f : ℕ) → Arguments n template → Arguments n (set template 0 f)
+arguments-set {n} {template} f h =
+    let e : getD (set template 0 f) 1 0 ≡ getD template 1 0 = getD-set-other template 0 1 f 0 (λ p. omega arith) in
+    record {
+      few = omega (arith, h .few);
+      within = λ j l. subst (λ (x : ℕ). x < n) (sym (getD-set-other template 0 (j + 2) f 0 (λ p. omega arith)))
+          (h .within j (subst (λ (x : ℕ). j < x) e l));
+    }
+
+-- the first cyclic row
+
+module _ (ts : List (List ℕ)) where
+  pub first-none : (ls : List (List ℕ)) → firstCyclic ts ls [] ≡ ls
+  unfolding firstCyclic
+  first-none [] = refl
+  first-none (l ∷ ls) = refl
+
+  pub first-append : (ls xs ys : List (List ℕ)) → firstCyclic ts ls (xs ++ ys) ≡ firstCyclic ts (firstCyclic ts ls xs) ys
+  unfolding firstCyclic
+  first-append (l ∷ ls) xs ys = refl
+  first-append [] [] ys = refl
+  first-append [] (x ∷ xs) ys = go (first-append [] xs ys) (case (cyclicRow ts x))
+    where
+      go : firstCyclic ts [] (xs ++ ys) ≡ firstCyclic ts (firstCyclic ts [] xs) ys → (cyclicRow ts x ≡ true) ⊎ (cyclicRow ts x ≡ false)
+          → firstCyclic ts [] (x ∷ (xs ++ ys)) ≡ firstCyclic ts (firstCyclic ts [] (x ∷ xs)) ys
+      go below (inl e) = rw (e, firstCyclic)
+      go below (inr e) = rw (e, firstCyclic) below
+
+  -- one was found before
+  pub first-old : (found : Bool) (row : List ℕ) (rs : List (List ℕ)) → found ≡ true → loopOf found row ≡ firstCyclic ts (loopOf found row) rs
+  unfolding firstCyclic loopOf
+  first-old found row rs e = rw (e, loopOf)
+
+  module _ (found : Bool) (row : List ℕ) (f : ℕ) (template : List ℕ) where
+    -- a variable of the body
+    pub first-without : f ≡ 0 → loopOf found row ≡ firstCyclic ts (loopOf found row) (rowWith f template)
+    unfolding rowWith
+    first-without e = sym (rw (eq-eqb f 0 e, rowWith) (first-none (loopOf found row)))
+
+    pub first-yes : found ≡ false → (f ≡ 0 → ⊥) → cyclicRow ts (set template 0 f) ≡ true
+        → loopOf true (set template 0 f) ≡ firstCyclic ts (loopOf found row) (rowWith f template)
+    unfolding rowWith loopOf firstCyclic
+    first-yes e h c = rw (e, ne-eqb f 0 h, loopOf, rowWith) (rw (c, firstCyclic))
+
+    pub first-no : found ≡ false → (f ≡ 0 → ⊥) → cyclicRow ts (set template 0 f) ≡ false
+        → loopOf found row ≡ firstCyclic ts (loopOf found row) (rowWith f template)
+    unfolding rowWith loopOf firstCyclic
+    first-no e h c = rw (e, ne-eqb f 0 h, loopOf, rowWith) (rw (c, firstCyclic))
+
+  -- a row that was tested makes no difference again
+  module _ (f : ℕ) (template : List ℕ) where
+    body-variable : f ≡ 0 → [] ≡ rowWith f template
+    unfolding rowWith
+    body-variable z = rw (eq-eqb f 0 z, rowWith)
+
+    skolem-variable : eqb f 0 ≡ false → set template 0 f ∷ [] ≡ rowWith f template
+    unfolding rowWith
+    skolem-variable e = rw (e, rowWith)
+
+    abbrev first : List (List ℕ) → List (List ℕ)
+    first ls = firstCyclic ts ls (rowWith f template)
+
+    one-again : (ls : List (List ℕ)) (r : List ℕ) → firstCyclic ts ls (r ∷ []) ≡ firstCyclic ts (firstCyclic ts ls (r ∷ [])) (r ∷ [])
+    unfolding firstCyclic
+    one-again (l ∷ ls) r = refl
+    one-again [] r = go (case (cyclicRow ts r))
+      where
+        go : (cyclicRow ts r ≡ true) ⊎ (cyclicRow ts r ≡ false) → firstCyclic ts [] (r ∷ []) ≡ firstCyclic ts (firstCyclic ts [] (r ∷ [])) (r ∷ [])
+        go (inl e) =
+            let y : firstCyclic ts [] (r ∷ []) ≡ r ∷ [] = rw (e, firstCyclic) in
+            y ∙ sym (ap (λ (ls : List (List ℕ)). firstCyclic ts ls (r ∷ [])) y)
+        go (inr e) =
+            let y : firstCyclic ts [] (r ∷ []) ≡ [] = rw (e, firstCyclic) in
+            sym (ap (λ (ls : List (List ℕ)). firstCyclic ts ls (r ∷ [])) y)
+
+    pub first-again : (ls : List (List ℕ)) → first ls ≡ first (first ls)
+    first-again ls = go (case (eqb f 0))
+      where
+        Same : List (List ℕ) → Type 0
+        Same rs = firstCyclic ts ls rs ≡ firstCyclic ts (firstCyclic ts ls rs) rs
+
+        go : (eqb f 0 ≡ true) ⊎ (eqb f 0 ≡ false) → Same (rowWith f template)
+        go (inl e) = subst Same (body-variable (eqb-true f 0 e)) (sym (first-none (firstCyclic ts ls [])))
+        go (inr e) = subst Same (skolem-variable e) (one-again ls (set template 0 f))
+
+    -- the function that was tested last, after one more variable
+    module _ (before : List (List ℕ)) {now : List (List ℕ)} (e : now ≡ first before) where
+      pub tested-this : {tested : ℕ} → tested ≡ f → now ≡ firstCyclic ts now (rowWith tested template)
+      tested-this h = e ∙ first-again before ∙ ap first (sym e) ∙ ap (λ (g : ℕ). firstCyclic ts now (rowWith g template)) (sym h)
+
+      pub tested-still : {tested last : ℕ} → f ≡ 0 → tested ≡ last → before ≡ firstCyclic ts before (rowWith last template) → now ≡ firstCyclic ts now (rowWith tested template)
+      tested-still {tested} {last} z h still =
+          let none : [] ≡ rowWith f template = body-variable z in
+          let same : now ≡ before = e ∙ ap (firstCyclic ts before) (sym none) ∙ first-none before in
+          subst (λ (ls : List (List ℕ)). ls ≡ firstCyclic ts ls (rowWith tested template)) (sym same)
+          (still ∙ ap (λ (g : ℕ). firstCyclic ts before (rowWith g template)) (sym h))
+
+-- the Skolem rows of an atom's variables, one more
+pub rowsWith-none : (functions template atom : List ℕ) → rowsWith functions template (numbersFrom atom 1 0) ≡ []
+unfolding rowsWith numbersFrom collect
+rowsWith-none functions template atom = refl
+
+pub rowsWith-more : (functions template atom : List ℕ) (p : ℕ)
+    → rowsWith functions template (numbersFrom atom 1 (p + 1)) ≡ rowsWith functions template (numbersFrom atom 1 p) ++ rowWith (getD functions (getD atom (p + 1) 0) 0) template
+unfolding rowsWith collect
+rowsWith-more functions template atom p =
+    let with : ℕ → List (List ℕ) = λ v. rowWith (getD functions v 0) template in
+    let e : 1 + p ≡ p + 1 = omega arith in
+    ap (λ (k : ℕ). collect with (numbersFrom atom 1 k)) (add-one p)
+    ∙ ap (collect with) (numbersFrom-snoc atom 1 p)
+    ∙ collect-append with (numbersFrom atom 1 p) (getD atom (1 + p) 0 ∷ [])
+    ∙ ap (λ (rs : List (List ℕ)). collect with (numbersFrom atom 1 p) ++ rs) (append-nil (with (getD atom (1 + p) 0)))
+    ∙ ap (λ (k : ℕ). collect with (numbersFrom atom 1 p) ++ with (getD atom k 0)) e
