@@ -1,20 +1,21 @@
--- Laws of term rows: the arguments of a term one by one, and size and occurrence without their bounds. Assumes nothing.
-use mathlib.Core.Path.{_≡_, refl, sym, ap, _∙_}
-use mathlib.Core.Bool.{Bool, true, false, _||_}
-use mathlib.Core.List.{List, [], _∷_, _++_, List·Memᴰ, List·Memᴰ·head, List·Memᴰ·tail, List·Memᴰ·not-nil, List·Memᴰ·cases-cons}
+-- Laws of term rows: the arguments of a term one by one, size and occurrence without their bounds, and what stands in marked terms. Assumes
+-- nothing.
+use mathlib.Core.Path.{_≡_, refl, sym, ap, ap₂, _∙_}
+use mathlib.Core.Bool.{Bool, true, false, _&&_, _||_, or-assoc, or-false}
+use mathlib.Core.List.{List, [], _∷_, List·Memᴰ, List·Memᴰ·head, List·Memᴰ·tail, List·Memᴰ·not-nil, List·Memᴰ·cases-cons}
 use mathlib.Core.Logic.{_⊎_, inl, inr}
-use Prim.Native.Nat.{ℕ, zero, suc, _+_, _-_, _*_, _≤_, _<_}
-use native.Mathlib.Nat.{add-zero, add-suc, suc-add, zero-add}
+use Prim.Native.Nat.{ℕ, zero, suc, _+_, _*_, _≤_, _<_}
+use native.Mathlib.Nat.{add-zero, add-suc, suc-add}
 use native.Mathlib.Numerals.{add-one}
 use native.Mathlib.Omega.{arith}
 use lib.Dec.{eqb}
-use lib.ListN.{length, getD, drop, set, length-set, length-append, length-drop, List·getD-append}
-use lib.Seq.{drop-nil, getD-set-same, getD-set-other, getD-drop, getD-append-add, ext-getD}
+use lib.ListN.{length, getD, drop, set, length-set}
+use lib.Seq.{drop-nil, getD-set-same, getD-set-other}
 use native.Mathlib.Decide.{decLt}
 use borrow.Author.Tests.{eq-eqb, ne-eqb}
 use Rattle.model.specs.Lists.{any, numbersFrom}
-use Rattle.terms.specs.Terms.{functionOf, arityOf, argumentOf, argumentsOf, Ordered, total, sizeWithin, sizeAt, occursWithin, occursAt, occurrences, markedArgument}
-use Rattle.laws.proofs.Bools.{or-left}
+use Rattle.terms.specs.Terms.{functionOf, arityOf, argumentOf, argumentsOf, Ordered, total, sizeWithin, sizeAt, occursWithin, occursAt, marked, occursMarked, passedDown}
+use Rattle.laws.proofs.Bools.{or-left, or-right}
 
 -- n numbers from a place on, from the j-th of them on
 numbersFrom-drop : (xs : List ℕ) (at n j : ℕ) → j < n → drop j (numbersFrom xs at n) ≡ getD xs (at + j) 0 ∷ drop (suc j) (numbersFrom xs at n)
@@ -99,93 +100,112 @@ occursAt-is {n} {t} o f i h =
     (any-agree (occursWithin i t f) (occursAt t f) (argumentsOf t i)
     (λ x p. let l = argumentsOf-before o i x h p in occursWithin-same o f i (suc x) x (omega arith) l (omega arith)))
 
--- a search over the arguments, one further
+-- marks, by term number, and what stands in a marked term
 
-any-more : (p : ℕ → Bool) (t : List ℕ) (i j : ℕ) → j < arityOf t i
-    → any p (drop j (argumentsOf t i)) ≡ p (argumentOf t i j) || any p (drop (j + 1) (argumentsOf t i))
-unfolding any
-any-more p t i j h = ap (any p) (argumentsOf-more t i j h)
+pub length-marked : (as' : List ℕ) (marks : List Bool) → length (marked as' marks) ≡ length marks
+unfolding marked
+length-marked [] marks = refl
+length-marked (a ∷ as') marks = length-marked as' (set marks a true) ∙ length-set marks a true
 
-pub any-found : (p : ℕ → Bool) (t : List ℕ) (i j : ℕ) → j < arityOf t i → p (argumentOf t i j) ≡ true → any p (drop j (argumentsOf t i)) ≡ true
-any-found p t i j h e = any-more p t i j h ∙ or-left (p (argumentOf t i j)) (any p (drop (j + 1) (argumentsOf t i))) e
+-- the arguments of a term marked one by one
+pub marked-more : (t : List ℕ) (i j : ℕ) (marks : List Bool) → j < arityOf t i
+    → marked (drop j (argumentsOf t i)) marks ≡ marked (drop (j + 1) (argumentsOf t i)) (set marks (argumentOf t i j) true)
+unfolding marked
+marked-more t i j marks h = ap (λ (as' : List ℕ). marked as' marks) (argumentsOf-more t i j h)
 
-pub any-passed : (p : ℕ → Bool) (t : List ℕ) (i j : ℕ) → j < arityOf t i → p (argumentOf t i j) ≡ false
-    → any p (drop j (argumentsOf t i)) ≡ any p (drop (j + 1) (argumentsOf t i))
-any-passed p t i j h e = any-more p t i j h ∙ ap (λ (b : Bool). b || any p (drop (j + 1) (argumentsOf t i))) e
+pub marked-end : (t : List ℕ) (i j : ℕ) (marks : List Bool) → arityOf t i ≤ j → marked (drop j (argumentsOf t i)) marks ≡ marks
+unfolding marked
+marked-end t i j marks h = ap (λ (as' : List ℕ). marked as' marks) (argumentsOf-end t i j h)
 
-pub any-end : (p : ℕ → Bool) (t : List ℕ) (i j : ℕ) → arityOf t i ≤ j → any p (drop j (argumentsOf t i)) ≡ false
-unfolding any
-any-end p t i j h = ap (any p) (argumentsOf-end t i j h)
+or-absorb : (a b c : Bool) → a || c ≡ (a || (b && c)) || c
+or-absorb true b c = refl
+or-absorb false true true = refl
+or-absorb false true false = refl
+or-absorb false false c = refl
 
--- marks by term number: what stands in a term's arguments is known from the marks before it
+or-swap : (a b c : Bool) → (a || b) || c ≡ (a || c) || b
+or-swap true b c = refl
+or-swap false true true = refl
+or-swap false true false = refl
+or-swap false false true = refl
+or-swap false false false = refl
 
-pub occurrences-length : (t : List ℕ) (f i n : ℕ) → length (occurrences t f i n) ≡ n
-unfolding occurrences
-occurrences-length t f i zero = refl
-occurrences-length t f i (suc n) = ap suc (occurrences-length t f (suc i) n)
+module _ (t : List ℕ) (f : ℕ) where
+  -- a mark behind the first n terms makes no difference
+  occurs-behind : (n a : ℕ) (marks : List Bool) → n ≤ a → occursMarked t f n (set marks a true) ≡ occursMarked t f n marks
+  unfolding occursMarked
+  occurs-behind zero a marks h = refl
+  occurs-behind (suc n) a marks h =
+      ap₂ (λ (b c : Bool). b || (c && occursAt t f n)) (occurs-behind n a marks (omega arith)) (getD-set-other marks a n true false (λ e. omega arith))
 
-pub occurrences-at : (t : List ℕ) (f i n k : ℕ) → k < n → getD (occurrences t f i n) k false ≡ occursAt t f (i + k)
-unfolding occurrences
-occurrences-at t f i zero k h = absurd (omega arith)
-occurrences-at t f i (suc n) zero h = ap (occursAt t f) (sym (add-zero i))
-occurrences-at t f i (suc n) (suc k) h = occurrences-at t f (suc i) n k (omega arith) ∙ ap (occursAt t f) (suc-add i k ∙ sym (add-suc i k))
+  -- one more term marked
+  occurs-set : (n a : ℕ) (marks : List Bool) → a < n → a < length marks → occursMarked t f n (set marks a true) ≡ occursMarked t f n marks || occursAt t f a
+  unfolding occursMarked
+  occurs-set zero a marks h l = absurd (omega arith)
+  occurs-set (suc n) a marks h l = go (λ k. occurs-set n a marks k l) (decLt a n)
+    where
+      go : (a < n → occursMarked t f n (set marks a true) ≡ occursMarked t f n marks || occursAt t f a) → Dec (a < n)
+          → occursMarked t f (suc n) (set marks a true) ≡ occursMarked t f (suc n) marks || occursAt t f a
+      go below (yes k) =
+          ap₂ (λ (b c : Bool). b || (c && occursAt t f n)) (below k) (getD-set-other marks a n true false (λ e. omega arith))
+          ∙ or-swap (occursMarked t f n marks) (occursAt t f a) (getD marks n false && occursAt t f n)
+      go below (no k) =
+          let e : n ≡ a = omega arith in
+          ap₂ (λ (b c : Bool). b || (c && occursAt t f n)) (occurs-behind n a marks (omega arith))
+          (ap (λ (m : ℕ). getD (set marks a true) m false) e ∙ getD-set-same marks a true false l)
+          ∙ or-absorb (occursMarked t f n marks) (getD marks n false) (occursAt t f n)
+          ∙ ap (λ (m : ℕ). occursMarked t f (suc n) marks || occursAt t f m) e
 
-pub occursAt-marked : {n : ℕ} {t : List ℕ} → Ordered n t → (f i : ℕ) (marks : List Bool) → i < n → (functionOf t i ≡ f → ⊥)
-    → ((k : ℕ) → k < i → getD marks k false ≡ occursAt t f k) → markedArgument t marks i ≡ occursAt t f i
-unfolding markedArgument
-occursAt-marked {n} {t} o f i marks h e m =
-    any-agree (λ (a : ℕ). getD marks a false) (occursAt t f) (argumentsOf t i) (λ a p. m a (argumentsOf-before o i a h p))
-    ∙ sym (occursAt-is o f i h ∙ ap (λ (b : Bool). b || any (occursAt t f) (argumentsOf t i)) (ne-eqb f (functionOf t i) (λ q. e (sym q))))
+  -- more terms marked
+  pub occurs-more : (n : ℕ) (as' : List ℕ) (marks : List Bool) → ((a : ℕ) → List·Memᴰ a as' → a < n) → n ≤ length marks
+      → occursMarked t f n (marked as' marks) ≡ occursMarked t f n marks || any (occursAt t f) as'
+  unfolding marked any
+  occurs-more n [] marks h l = sym (or-false (occursMarked t f n marks))
+  occurs-more n (a ∷ as') marks h l =
+      let b : a < n = h a (List·Memᴰ·head refl) in
+      occurs-more n as' (set marks a true) (λ x m. h x (List·Memᴰ·tail m)) (omega (arith, length-set marks a true))
+      ∙ ap (λ (c : Bool). c || any (occursAt t f) as') (occurs-set n a marks b (omega arith))
+      ∙ or-assoc (occursMarked t f n marks) (occursAt t f a) (any (occursAt t f) as')
 
-pub occursAt-head : {n : ℕ} {t : List ℕ} → Ordered n t → (f i : ℕ) → i < n → functionOf t i ≡ f → occursAt t f i ≡ true
-occursAt-head {n} {t} o f i h e =
-    occursAt-is o f i h ∙ or-left (eqb f (functionOf t i)) (any (occursAt t f) (argumentsOf t i)) (eq-eqb f (functionOf t i) (sym e))
+  -- nothing is marked
+  pub occurs-none : (n : ℕ) (marks : List Bool) → ((a : ℕ) → a < n → getD marks a false ≡ false) → occursMarked t f n marks ≡ false
+  unfolding occursMarked
+  occurs-none zero marks h = refl
+  occurs-none (suc n) marks h =
+      ap₂ (λ (b c : Bool). b || (c && occursAt t f n)) (occurs-none n marks (λ a l. h a (omega arith))) (h n (omega arith))
 
--- marks of which the first i are done, and the others are as they were
-pub record Marked (t : List ℕ) (f : ℕ) (old : List Bool) (i : ℕ) (marks : List Bool) : Type 0 where
-  pub length : lib.ListN.length marks ≡ lib.ListN.length old
-  pub done : (k : ℕ) → k < i → getD marks k false ≡ occursAt t f k
-  pub rest : (k : ℕ) → i ≤ k → getD marks k false ≡ getD old k false
+  -- one term further down: it is not marked, or its function is f, or its mark is passed to its arguments
 
-pub marked-none : (t : List ℕ) (f : ℕ) (old : List Bool) → Marked t f old 0 old
-marked-none t f old = record { length = refl; done = λ k h. absurd (omega arith); rest = λ k h. refl }
+  pub occurs-unmarked : (n : ℕ) (marks : List Bool) → getD marks n false ≡ false → occursMarked t f (suc n) marks ≡ occursMarked t f n marks
+  unfolding occursMarked
+  occurs-unmarked n marks e = ap (λ (c : Bool). occursMarked t f n marks || (c && occursAt t f n)) e ∙ or-false (occursMarked t f n marks)
 
-pub marked-more : {t : List ℕ} {f : ℕ} {old : List Bool} {i : ℕ} {marks : List Bool} (b : Bool) → Marked t f old i marks → i < length marks
-    → b ≡ occursAt t f i → Marked t f old (i + 1) (set marks i b)
-marked-more {t} {f} {old} {i} {marks} b m h e =
-    record {
-      length = length-set marks i b ∙ m .length;
-      done = λ k l. go k (decLt k i) l;
-      rest = λ k l. getD-set-other marks i k b false (λ q. omega arith) ∙ m .rest k (omega arith);
-    }
-  where
-    go : (k : ℕ) → Dec (k < i) → k < i + 1 → getD (set marks i b) k false ≡ occursAt t f k
-    go k (yes l) r = getD-set-other marks i k b false (λ q. omega arith) ∙ m .done k l
-    go k (no l) r =
-        let q : k ≡ i = omega arith in
-        ap (λ (n : ℕ). getD (set marks i b) n false) q ∙ getD-set-same marks i b false h ∙ e ∙ ap (occursAt t f) (sym q)
+  pub passed-unmarked : (n : ℕ) (marks : List Bool) → getD marks n false ≡ false → passedDown t f (suc n) marks ≡ passedDown t f n marks
+  unfolding passedDown
+  passed-unmarked n marks e = rw (e, passedDown)
 
-pub marked-all : {t : List ℕ} {f : ℕ} {old : List Bool} {n : ℕ} {marks : List Bool} → Marked t f old n marks → n ≤ length old
-    → marks ≡ occurrences t f 0 n ++ drop n old
-marked-all {t} {f} {old} {n} {marks} m h = ext-getD false marks (occurrences t f 0 n ++ drop n old) same (λ k l. go k (decLt k n))
-  where
-    front : length (occurrences t f 0 n) ≡ n
-    front = occurrences-length t f 0 n
+  pub passed-met : (n : ℕ) (marks : List Bool) → getD marks n false ≡ true → functionOf t n ≡ f → passedDown t f (suc n) marks ≡ marks
+  unfolding passedDown
+  passed-met n marks e g = rw (e, eq-eqb f (functionOf t n) (sym g), passedDown)
 
-    same : length marks ≡ length (occurrences t f 0 n ++ drop n old)
-    same = let e = m .length in rw (length-append, length-drop) (omega (arith, front))
+  pub passed-on : (n : ℕ) (marks : List Bool) → getD marks n false ≡ true → (functionOf t n ≡ f → ⊥)
+      → passedDown t f (suc n) marks ≡ passedDown t f n (marked (argumentsOf t n) marks)
+  unfolding passedDown
+  passed-on n marks e g = rw (e, ne-eqb f (functionOf t n) (λ q. g (sym q)), passedDown)
 
-    go : (k : ℕ) → Dec (k < n) → getD marks k false ≡ getD (occurrences t f 0 n ++ drop n old) k false
-    go k (yes l) =
-        m .done k l
-        ∙ ap (occursAt t f) (sym (zero-add k))
-        ∙ sym (occurrences-at t f 0 n k l)
-        ∙ sym (List·getD-append (occurrences t f 0 n) (drop n old) false k (omega (arith, front)))
-    go k (no l) =
-        let e : k ≡ length (occurrences t f 0 n) + (k - n) = omega (arith, front) in
-        let d : n + (k - n) ≡ k = omega arith in
-        m .rest k (omega arith)
-        ∙ ap (λ (j : ℕ). getD old j false) (sym d)
-        ∙ sym (getD-drop n old (k - n) false)
-        ∙ sym (getD-append-add (occurrences t f 0 n) (drop n old) (k - n) false)
-        ∙ ap (λ (j : ℕ). getD (occurrences t f 0 n ++ drop n old) j false) (sym e)
+  module _ {k : ℕ} (o : Ordered k t) (n : ℕ) (marks : List Bool) (h : n < k) (e : getD marks n false ≡ true) where
+    occurs-here : occursMarked t f (suc n) marks ≡ occursMarked t f n marks || (eqb f (functionOf t n) || any (occursAt t f) (argumentsOf t n))
+    unfolding occursMarked
+    occurs-here = ap₂ (λ (c d : Bool). occursMarked t f n marks || (c && d)) e (occursAt-is o f n h)
+
+    pub occurs-met : functionOf t n ≡ f → occursMarked t f (suc n) marks ≡ true
+    occurs-met g =
+        occurs-here
+        ∙ or-right (occursMarked t f n marks) (eqb f (functionOf t n) || any (occursAt t f) (argumentsOf t n))
+        (or-left (eqb f (functionOf t n)) (any (occursAt t f) (argumentsOf t n)) (eq-eqb f (functionOf t n) (sym g)))
+
+    pub occurs-on : (functionOf t n ≡ f → ⊥) → n ≤ length marks → occursMarked t f (suc n) marks ≡ occursMarked t f n (marked (argumentsOf t n) marks)
+    occurs-on g l =
+        occurs-here
+        ∙ ap (λ (c : Bool). occursMarked t f n marks || (c || any (occursAt t f) (argumentsOf t n))) (ne-eqb f (functionOf t n) (λ q. g (sym q)))
+        ∙ sym (occurs-more n (argumentsOf t n) marks (λ a m. argumentsOf-before o n a h m) l)

@@ -1,10 +1,10 @@
 -- Terms as rows of ten numbers: the Skolem function (0 for a constant), its arity, eight argument numbers, unused 0. Sizes, and which
 -- functions stand in a term, by term numbers. Assumes nothing.
 use mathlib.Core.List.{List, [], _∷_}
-use mathlib.Core.Bool.{Bool, false, _||_}
+use mathlib.Core.Bool.{Bool, true, false, _&&_, _||_}
 use Prim.Native.Nat.{ℕ, zero, suc, _+_, _*_, _≤_, _<_}
 use lib.Dec.{eqb}
-use lib.ListN.{length, getD}
+use lib.ListN.{length, getD, set}
 use Rattle.model.specs.Lists.{any, numbersFrom}
 
 abbrev pub functionOf : List ℕ → ℕ → ℕ
@@ -46,11 +46,21 @@ occursWithin (suc k) table f i = eqb f (functionOf table i) || any (occursWithin
 unfoldable pub occursAt : List ℕ → ℕ → ℕ → Bool
 occursAt table f i = occursWithin (suc i) table f i
 
--- of n terms from term i on, whether f stands in each
-unfoldable pub occurrences : List ℕ → ℕ → ℕ → ℕ → List Bool
-occurrences table f i zero = []
-occurrences table f i (suc n) = occursAt table f i ∷ occurrences table f (suc i) n
+-- marks, by term number, with some more terms marked
+unfoldable pub marked : List ℕ → List Bool → List Bool
+marked [] marks = marks
+marked (a ∷ as') marks = marked as' (set marks a true)
 
--- marks, by term number, that speak for a term's arguments
-unfoldable pub markedArgument : List ℕ → List Bool → ℕ → Bool
-markedArgument table marks i = any (λ (a : ℕ). getD marks a false) (argumentsOf table i)
+-- f stands in a marked term, of the first n
+unfoldable pub occursMarked : List ℕ → ℕ → ℕ → List Bool → Bool
+occursMarked table f zero marks = false
+occursMarked table f (suc n) marks = occursMarked table f n marks || (getD marks n false && occursAt table f n)
+
+-- the marks of the first n terms passed down to their arguments, from the last term on, as far as one whose function is f
+unfoldable pub passedDown : List ℕ → ℕ → ℕ → List Bool → List Bool
+passedDown table f zero marks = marks
+passedDown table f (suc n) marks =
+    elim (getD marks n false) [
+      | true ↦ elim (eqb f (functionOf table n)) [ true ↦ marks | false ↦ passedDown table f n (marked (argumentsOf table n) marks) ]
+      | false ↦ passedDown table f n marks
+    ]
