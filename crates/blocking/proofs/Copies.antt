@@ -39,7 +39,7 @@ getD-cell n t i k h l =
 row-function : (n : ℕ) (t : List ℕ) (i : ℕ) → i < n → getD (getD (rows 10 n t) i []) 0 0 ≡ functionOf t i
 row-function n t i h = getD-cell n t i 0 h (omega arith) ∙ ap (λ (k : ℕ). getD t k 0) (add-zero (i * 10))
 
-numbersFrom-take : (xs : List ℕ) (at n : ℕ) → at + n ≤ length xs → numbersFrom xs at n ≡ take n (drop at xs)
+pub numbersFrom-take : (xs : List ℕ) (at n : ℕ) → at + n ≤ length xs → numbersFrom xs at n ≡ take n (drop at xs)
 unfolding numbersFrom
 numbersFrom-take xs at zero h = refl
 numbersFrom-take xs at (suc n) h =

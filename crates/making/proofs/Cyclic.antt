@@ -1,26 +1,25 @@
--- Cyclic rows: by marks of the terms in which their function stands; and the first of them, row by row. Assumes nothing.
+-- Cyclic rows: by marks of their arguments; and the first of them, row by row. Assumes nothing.
 use mathlib.Core.Path.{_≡_, refl, sym, ap, _∙_, subst}
-use mathlib.Core.Bool.{Bool, true, false}
+use mathlib.Core.Bool.{Bool, true, false, _||_}
 use mathlib.Core.Logic.{_⊎_, inl, inr}
 use mathlib.Core.List.{List, [], _∷_, _++_, append-nil, List·Memᴰ}
 use Prim.Native.Nat.{ℕ, _+_, _≤_, _<_}
-use native.Mathlib.Nat.{zero-add}
 use native.Mathlib.Numerals.{add-one}
 use native.Mathlib.Omega.{arith}
 use lib.Dec.{eqb}
-use lib.ListN.{length, getD, drop, set, length-drop, List·getD-append}
-use lib.Seq.{length-take-le, getD-take, getD-drop, getD-set-other}
+use lib.ListN.{length, getD, set}
+use lib.Seq.{getD-set-other}
 use borrow.Author.Tests.{eq-eqb, ne-eqb, eqb-true}
 use Rattle.model.specs.Lists.{any, collect, numbersFrom}
 use Rattle.laws.proofs.Bools.{case}
 use Rattle.laws.proofs.Lists.{collect-append}
 use Rattle.terms.specs.Rows.{rows}
-use Rattle.terms.specs.Terms.{Ordered, occursAt, occurrences}
-use Rattle.terms.proofs.Terms.{occurrences-length, occurrences-at}
+use Rattle.terms.specs.Terms.{argumentOf, argumentsOf, Ordered, occursAt, marked, occursMarked}
+use Rattle.terms.proofs.Terms.{argumentsOf-mem, occurs-more, occurs-none}
 use Rattle.terms.proofs.Tables.{rows-length}
-use Rattle.triggers.proofs.Lists.{mem-getD}
 use Rattle.outputs.proofs.Atoms.{numbersFrom-snoc}
 use Rattle.blocking.specs.Copies.{argumentsIn}
+use Rattle.blocking.proofs.Copies.{numbersFrom-take}
 use Rattle.stage_rows.specs.Making.{occursIn, cyclicRow, firstCyclic}
 use Rattle.making.specs.Looping.{loopOf, Arguments, rowWith, rowsWith}
 use Rattle.making.proofs.Flat.{any-agree, occursIn-is}
@@ -30,40 +29,31 @@ pub ordered-front : {n : ℕ} {t : List ℕ} (k : ℕ) → k ≤ n → Ordered n
 ordered-front k h o =
     record { room = let r = o .room in omega arith; arity = λ i l. o .arity i (omega arith); before = λ i j l m. o .before i j (omega arith) m }
 
-module _ (row : List ℕ) (long : length row ≡ 10) where
-  pub arguments-length : getD row 1 0 ≤ 8 → length (argumentsIn row) ≡ getD row 1 0
-  unfolding argumentsIn
-  arguments-length h = length-take-le (getD row 1 0) (drop 2 row) (omega (arith, length-drop 2 row))
+-- the arguments of a row, as of the first term of a table
 
-  pub arguments-at : (j : ℕ) → j < getD row 1 0 → getD (argumentsIn row) j 0 ≡ getD row (j + 2) 0
-  unfolding argumentsIn
-  arguments-at j h =
-      let e : 2 + j ≡ j + 2 = omega arith in
-      getD-take (getD row 1 0) (drop 2 row) j 0 h ∙ getD-drop 2 row j 0 ∙ ap (λ (k : ℕ). getD row k 0) e
+pub argument-first : (row : List ℕ) (j : ℕ) → argumentOf row 0 j ≡ getD row (j + 2) 0
+argument-first row j = let e : 2 + j ≡ j + 2 = omega arith in ap (λ (k : ℕ). getD row k 0) e
 
-  -- with marks for the terms in which the row's function stands, of the first k, which the arguments are among
-  pub cyclic-marked : {n k : ℕ} {t : List ℕ} → Ordered n t → k ≤ n → Arguments k row → (marks rest : List Bool) → marks ≡ occurrences t (getD row 0 0) 0 k ++ rest
-      → cyclicRow (rows 10 n t) row ≡ any (λ (a : ℕ). getD marks a false) (argumentsIn row)
-  unfolding cyclicRow
-  cyclic-marked {n} {k} {t} o few h marks rest e =
-      any-agree (occursIn (length (rows 10 n t)) (rows 10 n t) f) (λ (a : ℕ). getD marks a false) (argumentsIn row) (λ a m. each a (below a m))
-    where
-      f : ℕ
-      f = getD row 0 0
+arguments-first : (row : List ℕ) → length row ≡ 10 → getD row 1 0 ≤ 8 → argumentsIn row ≡ argumentsOf row 0
+unfolding argumentsIn argumentsOf
+arguments-first row long h = sym (numbersFrom-take row 2 (getD row 1 0) (omega arith))
 
-      below : (a : ℕ) → List·Memᴰ a (argumentsIn row) → a < k
-      below a m =
-          let (j, l, at) = mem-getD 0 m in
-          let i : j < getD row 1 0 = omega (arith, arguments-length (h .few)) in
-          omega (arith, h .within j i, arguments-at j i)
+-- a row is cyclic if its function stands in a marked term, when its arguments are marked and nothing else, of the first k, which they are among
+pub cyclic-marked : {n k : ℕ} {t row : List ℕ} → Ordered n t → k ≤ n → length row ≡ 10 → Arguments k row
+    → (marks : List Bool) → k ≤ length marks → ((a : ℕ) → a < k → getD marks a false ≡ false)
+    → cyclicRow (rows 10 n t) row ≡ occursMarked t (getD row 0 0) k (marked (argumentsOf row 0) marks)
+unfolding cyclicRow
+cyclic-marked {n} {k} {t} {row} o few long h marks room none =
+    ap (any (occursIn (length (rows 10 n t)) (rows 10 n t) f)) (arguments-first row long (h .few))
+    ∙ any-agree (occursIn (length (rows 10 n t)) (rows 10 n t) f) (occursAt t f) (argumentsOf row 0)
+    (λ a m. let l = below a m in occursIn-is o (length (rows 10 n t)) f a (omega arith) (omega (arith, rows-length 10 n t)))
+    ∙ sym (occurs-more t f k (argumentsOf row 0) marks below room ∙ ap (λ (b : Bool). b || any (occursAt t f) (argumentsOf row 0)) (occurs-none t f k marks none))
+  where
+    f : ℕ
+    f = getD row 0 0
 
-      each : (a : ℕ) → a < k → occursIn (length (rows 10 n t)) (rows 10 n t) f a ≡ getD marks a false
-      each a l =
-          occursIn-is o (length (rows 10 n t)) f a (omega arith) (omega (arith, rows-length 10 n t))
-          ∙ sym (ap (λ (ms : List Bool). getD ms a false) e
-          ∙ List·getD-append (occurrences t f 0 k) rest false a (omega (arith, occurrences-length t f 0 k))
-          ∙ occurrences-at t f 0 k a l
-          ∙ ap (occursAt t f) (zero-add a))
+    below : (a : ℕ) → List·Memᴰ a (argumentsOf row 0) → a < k
+    below a m = let (j, l, e) = argumentsOf-mem row 0 m in omega (arith, e, argument-first row j, h .within j l)
 
 -- a row with another function has the same arguments
 pub arguments-set : {n : ℕ} {template : List ℕ} (f : ℕ) → Arguments n template → Arguments n (set template 0 f)

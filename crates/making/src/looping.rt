@@ -41,18 +41,10 @@ fn is_cyclic(terms: &[u16], n: usize, row: [u16; 10]) -> bool
     ensures { λ r. ⌜ r ≡ cyclicRow (rows 10 n (now (terms .entry))) row ⌝ }
 {
     let mut marks: [bool; 512] = [false; 512];
+    terms::mark_arguments(&row[..], 0, &mut marks[..]);
     // no term behind the greatest argument stands in one
     let count = reach(row);
-    terms::mark_occurrences(terms, count, row[0], &mut marks[..]);
-    let arity = row[1] as usize;
-    let mut j = 0;
-    while j < arity {
-        if marks[row[j + 2] as usize] {
-            return true;
-        }
-        j += 1;
-    }
-    false
+    terms::occurs_in_marked(terms, count, row[0], &mut marks[..])
 }
 
 // A cyclic row, if one was found.

@@ -50,9 +50,12 @@ pub argumentsOf-end : (t : List ℕ) (i j : ℕ) → arityOf t i ≤ j → drop 
 unfolding argumentsOf
 argumentsOf-end t i j h = numbersFrom-end t (i * 10 + 2) (arityOf t i) j h
 
-pub argumentsOf-before : {n : ℕ} {t : List ℕ} → Ordered n t → (i a : ℕ) → i < n → List·Memᴰ a (argumentsOf t i) → a < i
+pub argumentsOf-mem : (t : List ℕ) (i : ℕ) {a : ℕ} → List·Memᴰ a (argumentsOf t i) → (j : ℕ) × (j < arityOf t i) × (a ≡ argumentOf t i j)
 unfolding argumentsOf
-argumentsOf-before {n} {t} o i a h m = let (j, k, e) = numbersFrom-mem t (i * 10 + 2) (arityOf t i) m in let b = o .before i j h k in omega arith
+argumentsOf-mem t i m = numbersFrom-mem t (i * 10 + 2) (arityOf t i) m
+
+pub argumentsOf-before : {n : ℕ} {t : List ℕ} → Ordered n t → (i a : ℕ) → i < n → List·Memᴰ a (argumentsOf t i) → a < i
+argumentsOf-before {n} {t} o i a h m = let (j, k, e) = argumentsOf-mem t i m in let b = o .before i j h k in omega arith
 
 -- sums and searches over equal functions
 
