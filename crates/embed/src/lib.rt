@@ -67,7 +67,7 @@ pub extern "C" fn rulfjen_read(book: &[u8], form: &mut [u16], value: &mut usize)
 pub extern "C" fn rulfjen_write(form: &[u16], book: &mut [u8], value: &mut usize) -> usize
     ensures { λ r. ⌜ ofWriting (writing (now (form .entry)) (now (book .entry))) ≡ record { number = r; value = now (value .exit); list = now (book .exit) } ⌝ }
 {
-    let answer = ruleset::writer::write(form, &mut *book);
+    let answer = writer::write(form, &mut *book);
     transfer(answer, &mut *value)
 }
 

@@ -6,11 +6,3 @@ pub mod Heads
 pub mod RuleRow
 pub mod FormRow
 pub mod Reading
-pub mod Writing
-pub mod Spelling
-pub mod Places
-pub mod AtomWriting
-pub mod RuleWriting
-pub mod ContentWriting
-pub mod Bytes
-pub mod RoundTrip

@@ -1,4 +1,3 @@
 pub mod Step
 pub mod Heads
 pub mod Transfer
-pub mod Writes

@@ -1,8 +1,8 @@
-// Rule sets as bytes and as forms (document 01: book bytes, book form): the reader, the writer, and what a rule's variables say of it.
+// Rule sets as bytes and as forms (document 01: book bytes, book form): the reader, and what it shares with the writer, which is a crate of
+// its own.
 // The contracts cite the definitions of model (`Format`, `Form`, `Rules`), through `specs/`.
 pub mod faults;
 pub mod reader;
-pub mod writer;
 
 // What a parser answers: a value and where to go on, or a refusal and its place.
 pub enum Step {

@@ -3,13 +3,13 @@
 use crate::answer::expected;
 use crate::form;
 use ruleset::reader::read;
-use ruleset::writer::write;
 use trial::answer::is_other;
 use trial::answer::shown;
 use trial::bytes;
 use trial::column::four;
 use trial::file;
 use trial::say;
+use writer::write;
 
 // Whether a form is written as these bytes, and nothing beyond them.
 fn is_written_back(form: &[u16], book: &[u8]) -> bool {

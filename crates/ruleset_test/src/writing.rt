@@ -4,13 +4,13 @@
 use crate::answer::expected;
 use crate::form::put;
 use ruleset::reader::read;
-use ruleset::writer::write;
 use trial::answer::is_other;
 use trial::answer::shown;
 use trial::bytes;
 use trial::column::four;
 use trial::file;
 use trial::say;
+use writer::write;
 
 // Whether the answer or the list of marks differs.
 fn compared(line: &[u8], form: &[u16], book: &[u8], list: &mut [u8]) -> bool {
