@@ -6,10 +6,9 @@ use mathlib.Core.List.{List, [], _∷_, _++_, append-nil, List·Memᴰ}
 use Prim.Native.Nat.{ℕ, _+_, _≤_, _<_}
 use native.Mathlib.Numerals.{add-one}
 use native.Mathlib.Omega.{arith}
-use lib.Dec.{eqb}
 use lib.ListN.{length, getD, set}
 use lib.Seq.{getD-set-other}
-use borrow.Author.Tests.{eq-eqb, ne-eqb, eqb-true}
+use borrow.Author.Tests.{eq-eqb, ne-eqb}
 use Rattle.model.specs.Lists.{any, collect, numbersFrom}
 use Rattle.laws.proofs.Bools.{case}
 use Rattle.laws.proofs.Lists.{collect-append}
@@ -21,7 +20,7 @@ use Rattle.outputs.proofs.Atoms.{numbersFrom-snoc}
 use Rattle.blocking.specs.Copies.{argumentsIn}
 use Rattle.blocking.proofs.Copies.{numbersFrom-take}
 use Rattle.stage_rows.specs.Making.{occursIn, cyclicRow, firstCyclic}
-use Rattle.making.specs.Looping.{loopOf, Arguments, rowWith, rowsWith}
+use Rattle.making.specs.Looping.{loopOf, Arguments, rowWith, rowsWith, Settled}
 use Rattle.making.proofs.Flat.{any-agree, occursIn-is}
 
 -- the first terms of a table by themselves
@@ -95,63 +94,17 @@ module _ (ts : List (List ℕ)) where
     unfolding rowWith
     first-without e = sym (rw (eq-eqb f 0 e, rowWith) (first-none (loopOf found row)))
 
-    pub first-yes : found ≡ false → (f ≡ 0 → ⊥) → cyclicRow ts (set template 0 f) ≡ true
-        → loopOf true (set template 0 f) ≡ firstCyclic ts (loopOf found row) (rowWith f template)
+    -- a variable with a Skolem function, by its test
+    pub first-test : found ≡ false → (f ≡ 0 → ⊥) → (cyclic : Bool) → cyclic ≡ cyclicRow ts (set template 0 f)
+        → loopOf cyclic (set template 0 f) ≡ firstCyclic ts (loopOf found row) (rowWith f template)
     unfolding rowWith loopOf firstCyclic
-    first-yes e h c = rw (e, ne-eqb f 0 h, loopOf, rowWith) (rw (c, firstCyclic))
+    first-test e h true c = rw (e, ne-eqb f 0 h, loopOf, rowWith) (rw (sym c, firstCyclic))
+    first-test e h false c = rw (e, ne-eqb f 0 h, loopOf, rowWith) (rw (sym c, firstCyclic))
 
-    pub first-no : found ≡ false → (f ≡ 0 → ⊥) → cyclicRow ts (set template 0 f) ≡ false
-        → loopOf found row ≡ firstCyclic ts (loopOf found row) (rowWith f template)
-    unfolding rowWith loopOf firstCyclic
-    first-no e h c = rw (e, ne-eqb f 0 h, loopOf, rowWith) (rw (c, firstCyclic))
-
-  -- a row that was tested makes no difference again
-  module _ (f : ℕ) (template : List ℕ) where
-    body-variable : f ≡ 0 → [] ≡ rowWith f template
-    unfolding rowWith
-    body-variable z = rw (eq-eqb f 0 z, rowWith)
-
-    skolem-variable : eqb f 0 ≡ false → set template 0 f ∷ [] ≡ rowWith f template
-    unfolding rowWith
-    skolem-variable e = rw (e, rowWith)
-
-    abbrev first : List (List ℕ) → List (List ℕ)
-    first ls = firstCyclic ts ls (rowWith f template)
-
-    one-again : (ls : List (List ℕ)) (r : List ℕ) → firstCyclic ts ls (r ∷ []) ≡ firstCyclic ts (firstCyclic ts ls (r ∷ [])) (r ∷ [])
-    unfolding firstCyclic
-    one-again (l ∷ ls) r = refl
-    one-again [] r = go (case (cyclicRow ts r))
-      where
-        go : (cyclicRow ts r ≡ true) ⊎ (cyclicRow ts r ≡ false) → firstCyclic ts [] (r ∷ []) ≡ firstCyclic ts (firstCyclic ts [] (r ∷ [])) (r ∷ [])
-        go (inl e) =
-            let y : firstCyclic ts [] (r ∷ []) ≡ r ∷ [] = rw (e, firstCyclic) in
-            y ∙ sym (ap (λ (ls : List (List ℕ)). firstCyclic ts ls (r ∷ [])) y)
-        go (inr e) =
-            let y : firstCyclic ts [] (r ∷ []) ≡ [] = rw (e, firstCyclic) in
-            sym (ap (λ (ls : List (List ℕ)). firstCyclic ts ls (r ∷ [])) y)
-
-    pub first-again : (ls : List (List ℕ)) → first ls ≡ first (first ls)
-    first-again ls = go (case (eqb f 0))
-      where
-        Same : List (List ℕ) → Type 0
-        Same rs = firstCyclic ts ls rs ≡ firstCyclic ts (firstCyclic ts ls rs) rs
-
-        go : (eqb f 0 ≡ true) ⊎ (eqb f 0 ≡ false) → Same (rowWith f template)
-        go (inl e) = subst Same (body-variable (eqb-true f 0 e)) (sym (first-none (firstCyclic ts ls [])))
-        go (inr e) = subst Same (skolem-variable e) (one-again ls (set template 0 f))
-
-    -- the function that was tested last, after one more variable
-    module _ (before : List (List ℕ)) {now : List (List ℕ)} (e : now ≡ first before) where
-      pub tested-this : {tested : ℕ} → tested ≡ f → now ≡ firstCyclic ts now (rowWith tested template)
-      tested-this h = e ∙ first-again before ∙ ap first (sym e) ∙ ap (λ (g : ℕ). firstCyclic ts now (rowWith g template)) (sym h)
-
-      pub tested-still : {tested last : ℕ} → f ≡ 0 → tested ≡ last → before ≡ firstCyclic ts before (rowWith last template) → now ≡ firstCyclic ts now (rowWith tested template)
-      tested-still {tested} {last} z h still =
-          let none : [] ≡ rowWith f template = body-variable z in
-          let same : now ≡ before = e ∙ ap (firstCyclic ts before) (sym none) ∙ first-none before in
-          subst (λ (ls : List (List ℕ)). ls ≡ firstCyclic ts ls (rowWith tested template)) (sym same)
-          (still ∙ ap (λ (g : ℕ). firstCyclic ts before (rowWith g template)) (sym h))
+  -- a function that was tested makes no difference again
+  pub settled : (f : ℕ) (template : List ℕ) → (f ≡ 0 → ⊥) → (cyclic : Bool) → cyclic ≡ cyclicRow ts (set template 0 f) → Settled ts template cyclic (set template 0 f) f
+  settled f template h true c = first-old true (set template 0 f) (rowWith f template) refl
+  settled f template h false c = first-test false (set template 0 f) f template refl h false c
 
 -- the Skolem rows of an atom's variables, one more
 pub rowsWith-none : (functions template atom : List ℕ) → rowsWith functions template (numbersFrom atom 1 0) ≡ []

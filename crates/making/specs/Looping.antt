@@ -1,11 +1,13 @@
 -- The first cyclic row, as the code has it: a row, and whether there is one. Skolem rows come from a variable's function, 0 for a variable of
 -- the body, and the row of the Skolem terms but for their function. Assumes nothing.
+use mathlib.Core.Path.{_≡_}
 use mathlib.Core.List.{List, [], _∷_}
 use mathlib.Core.Bool.{Bool, true, false}
 use Prim.Native.Nat.{ℕ, _+_, _≤_, _<_}
 use lib.Dec.{eqb}
 use lib.ListN.{getD, set}
 use Rattle.model.specs.Lists.{collect}
+use Rattle.stage_rows.specs.Making.{firstCyclic}
 
 unfoldable pub loopOf : Bool → List ℕ → List (List ℕ)
 loopOf found row = elim found [ true ↦ row ∷ [] | false ↦ [] ]
@@ -21,3 +23,7 @@ rowWith function template = elim (eqb function 0) [ true ↦ [] | false ↦ set 
 -- the Skolem rows of variables, in order
 unfoldable pub rowsWith : List ℕ → List ℕ → List ℕ → List (List ℕ)
 rowsWith functions template vs = collect (λ (v : ℕ). rowWith (getD functions v 0) template) vs
+
+-- the row of a function makes no difference to the first cyclic row: one was found, or the function was tested, or it is 0
+abbrev pub Settled : List (List ℕ) → List ℕ → Bool → List ℕ → ℕ → Type 0
+Settled terms template found row tested = loopOf found row ≡ firstCyclic terms (loopOf found row) (rowWith tested template)

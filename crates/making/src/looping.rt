@@ -7,7 +7,7 @@ ghost use Rattle.terms.specs.Rows.{rows};
 ghost use Rattle.terms.specs.Terms.{Ordered};
 ghost use Rattle.outputs.specs.Atoms.{Sound};
 ghost use Rattle.stage_rows.specs.Making.{cyclicRow, firstCyclic};
-ghost use Rattle.making.specs.Looping.{loopOf, Arguments, rowWith, rowsWith};
+ghost use Rattle.making.specs.Looping.{loopOf, Arguments, rowWith, rowsWith, Settled};
 
 // One more than an argument, or what was reached before if that is more.
 fn farther(reached: usize, argument: u16) -> usize
@@ -47,23 +47,17 @@ fn is_cyclic(terms: &[u16], n: usize, row: [u16; 10]) -> bool
     terms::occurs_in_marked(terms, count, row[0], &mut marks[..])
 }
 
-// A cyclic row, if one was found.
+// A cyclic row, if one was found, and the Skolem function that was tested last, 0 if none was.
 pub struct Loop {
     pub found: bool,
     pub row: [u16; 10],
+    pub tested: u16,
 }
 
-// The first cyclic row: the one before, or that of a variable with a Skolem function; the row of the function `tested` makes no difference.
-fn with_variable(
-    function: u16,
-    tested: u16,
-    template: [u16; 10],
-    terms: &[u16],
-    n: usize,
-    before: Loop,
-) -> Loop
-    requires { ⌜ Ordered n (now terms) × (n ≤ 512) × Arguments n template × (loopOf (before .found) (before .row) ≡ firstCyclic (rows 10 n (now terms)) (loopOf (before .found) (before .row)) (rowWith tested template)) ⌝ }
-    ensures { λ r. ⌜ loopOf (r .found) (r .row) ≡ firstCyclic (rows 10 n (now (terms .entry))) (loopOf (before .found) (before .row)) (rowWith function template) ⌝ }
+// The first cyclic row: the one before, or that of a variable with a Skolem function. The function that was tested last is not tested again.
+fn with_variable(function: u16, template: [u16; 10], terms: &[u16], n: usize, before: Loop) -> Loop
+    requires { ⌜ Ordered n (now terms) × (n ≤ 512) × Arguments n template × Settled (rows 10 n (now terms)) template (before .found) (before .row) (before .tested) ⌝ }
+    ensures { λ r. ⌜ (loopOf (r .found) (r .row) ≡ firstCyclic (rows 10 n (now (terms .entry))) (loopOf (before .found) (before .row)) (rowWith function template)) × Settled (rows 10 n (now (terms .entry))) template (r .found) (r .row) (r .tested) ⌝ }
 {
     if before.found {
         return before;
@@ -71,18 +65,20 @@ fn with_variable(
     if function == 0 {
         return before;
     }
-    if function == tested {
+    if function == before.tested {
         return before;
     }
     let mut row = template;
     row[0] = function;
-    if is_cyclic(terms, n, row) {
-        return Loop { found: true, row };
+    let found = is_cyclic(terms, n, row);
+    Loop {
+        found,
+        row,
+        tested: function,
     }
-    before
 }
 
-// The first cyclic row: the one before, or the first of an atom's variables. A function that was tested just before is not tested again.
+// The first cyclic row: the one before, or the first of an atom's variables.
 pub fn with_atom(
     atom: [u16; 5],
     arity: usize,
@@ -92,22 +88,21 @@ pub fn with_atom(
     n: usize,
     before: Loop,
 ) -> Loop
-    requires { ⌜ Sound atom arity × Ordered n (now terms) × (n ≤ 512) × Arguments n template ⌝ }
-    ensures { λ r. ⌜ loopOf (r .found) (r .row) ≡ firstCyclic (rows 10 n (now (terms .entry))) (loopOf (before .found) (before .row)) (rowsWith functions template (numbersFrom atom 1 arity)) ⌝ }
+    requires { ⌜ Sound atom arity × Ordered n (now terms) × (n ≤ 512) × Arguments n template × Settled (rows 10 n (now terms)) template (before .found) (before .row) (before .tested) ⌝ }
+    ensures { λ r. ⌜ (loopOf (r .found) (r .row) ≡ firstCyclic (rows 10 n (now (terms .entry))) (loopOf (before .found) (before .row)) (rowsWith functions template (numbersFrom atom 1 arity))) × Settled (rows 10 n (now (terms .entry))) template (r .found) (r .row) (r .tested) ⌝ }
 {
     let mut found = before.found;
     let mut row = before.row;
-    let mut tested = 0;
+    let mut tested = before.tested;
     let mut p = 0;
     while p < arity {
         let function = functions[atom[p + 1] as usize];
-        let next = with_variable(function, tested, template, terms, n, Loop { found, row });
+        let so_far = Loop { found, row, tested };
+        let next = with_variable(function, template, terms, n, so_far);
         found = next.found;
         row = next.row;
-        if function != 0 {
-            tested = function;
-        }
+        tested = next.tested;
         p += 1;
     }
-    Loop { found, row }
+    Loop { found, row, tested }
 }

@@ -1,15 +1,15 @@
 -- Rows of atoms as the code fills them, one number, row or disjunct after the other. Assumes nothing.
 use mathlib.Core.Path.{_≡_, refl, sym, ap, ap₂, _∙_}
 use mathlib.Core.List.{List, [], _∷_, _++_, map}
-use Prim.Native.Nat.{ℕ, suc, _+_, _*_, _<_}
+use Prim.Native.Nat.{ℕ, zero, suc, _+_, _-_, _*_, _<_}
 use native.Mathlib.Omega.{arith}
 use native.Mathlib.Numerals.{add-one}
 use lib.ListN.{length, getD, set, replicate}
-use Rattle.model.specs.Lists.{numbersFrom}
+use Rattle.model.specs.Lists.{numbersFrom, padded}
 use Rattle.model.specs.Rules.{Atom}
 use Rattle.model.specs.Form.{spaced, atomRow}
 use Rattle.laws.proofs.Places.{length-numbersFrom, numbersFrom-more, length-spaced}
-use Rattle.rules.specs.Places.{aritiesOf, rulesOf, ruleOf, atomOf, groupOf, filled, noRow, atomRows, headRows, atomArities}
+use Rattle.rules.specs.Places.{aritiesOf, rulesOf, ruleOf, atomOf, groupOf, filled, noRow, atomRows, headRows, atomArities, atomPredicates}
 use Rattle.rules.proofs.Lists.{spaced-more, filled-more, padded-filled, map-spaced}
 use Rattle.rules.proofs.Places.{atoms-place, variables-place, predicate-place, head-place, rulePlace}
 
@@ -57,6 +57,26 @@ arities-last form at k e =
     ∙ ap (filled 4 0)
     (sym (map-spaced (λ (a : Atom). length (a .variables)) (atomOf form) 5 (getD form at 0) (suc at))
     ∙ ap (map (λ (a : Atom). length (a .variables))) (sym (atoms-place form at)))
+
+pub predicates-last : (form : List ℕ) (at k : ℕ) → k ≡ getD form at 0
+    → filled 4 0 (spaced (λ (p : ℕ). atomOf form p .predicate) 5 k (suc at)) ≡ atomPredicates (groupOf form at)
+unfolding atomPredicates
+predicates-last form at k e =
+    ap (λ (m : ℕ). filled 4 0 (spaced (λ (p : ℕ). atomOf form p .predicate) 5 m (suc at))) e
+    ∙ ap (filled 4 0)
+    (sym (map-spaced (λ (a : Atom). a .predicate) (atomOf form) 5 (getD form at 0) (suc at))
+    ∙ ap (map (λ (a : Atom). a .predicate)) (sym (atoms-place form at)))
+
+-- the predicate of an atom is the first number of its row
+pub predicates-rows : (as' : List Atom) (d : ℕ) → d < length as' → getD (getD (atomRows as') d []) 0 0 ≡ getD (atomPredicates as') d 0
+unfolding atomRows atomPredicates filled atomRow padded
+predicates-rows as' = go as' (4 - length (map atomRow as')) (4 - length (map (λ (a : Atom). a .predicate) as'))
+  where
+    go : (as' : List Atom) (m k d : ℕ) → d < length as'
+        → getD (getD (map atomRow as' ++ replicate m noRow) d []) 0 0 ≡ getD (map (λ (a : Atom). a .predicate) as' ++ replicate k 0) d 0
+    go [] m k d h = absurd (omega arith)
+    go (a ∷ as') m k zero h = refl
+    go (a ∷ as') m k (suc d) h = go as' m k d (omega arith)
 
 -- the disjuncts of a rule
 

@@ -61,3 +61,7 @@ headRows ds = filled 4 (replicate 4 noRow) (map atomRows ds)
 -- the arities of up to four atoms, then zeros
 unfoldable pub atomArities : List Atom → List ℕ
 atomArities as' = filled 4 0 (map (λ (a : Atom). length (a .variables)) as')
+
+-- the predicates of up to four atoms, then zeros
+unfoldable pub atomPredicates : List Atom → List ℕ
+atomPredicates as' = filled 4 0 (map (λ (a : Atom). a .predicate) as')

@@ -7,7 +7,7 @@ ghost use mathlib.Core.Path.{_≡_};
 ghost use Prim.Native.Nat.{_<_};
 ghost use lib.ListN.{length};
 ghost use Rattle.model.specs.Form.{atomRow};
-ghost use Rattle.rules.specs.Places.{Held, AtomPlace, GroupPlace, rulesOf, ruleOf, disjunctOf, atomOf, groupOf, atomRows, headRows, atomArities};
+ghost use Rattle.rules.specs.Places.{Held, AtomPlace, GroupPlace, rulesOf, ruleOf, disjunctOf, atomOf, groupOf, atomRows, headRows, atomArities, atomPredicates};
 
 // The arity of the atom at a place.
 pub fn arity_at(form: &[u16], at: usize) -> usize
@@ -64,6 +64,21 @@ fn arities_at(form: &[u16], at: usize) -> [usize; 4]
     arities
 }
 
+// The predicates of the atoms of the group at a place.
+fn predicates_at(form: &[u16], at: usize) -> [u16; 4]
+    requires { ⌜ GroupPlace (now form) at ⌝ }
+    ensures { λ r. ⌜ r ≡ atomPredicates (groupOf (now (form .entry)) at) ⌝ }
+{
+    let n = wide(form[at]);
+    let mut predicates = [0u16; 4];
+    let mut k = 0;
+    while k < n {
+        predicates[k] = form[at + 1 + k * 5];
+        k += 1;
+    }
+    predicates
+}
+
 // The body atoms of rule `i`.
 pub fn body(form: &[u16], i: usize) -> [[u16; 5]; 4]
     requires { ⌜ Held (now form) × (i < length (rulesOf (now form))) ⌝ }
@@ -77,6 +92,13 @@ pub fn body_arities(form: &[u16], i: usize) -> [usize; 4]
     ensures { λ r. ⌜ r ≡ atomArities (ruleOf (now (form .entry)) i .body) ⌝ }
 {
     arities_at(form, 3 + i * 106)
+}
+
+pub fn body_predicates(form: &[u16], i: usize) -> [u16; 4]
+    requires { ⌜ Held (now form) × (i < length (rulesOf (now form))) ⌝ }
+    ensures { λ r. ⌜ r ≡ atomPredicates (ruleOf (now (form .entry)) i .body) ⌝ }
+{
+    predicates_at(form, 3 + i * 106)
 }
 
 // The atoms of disjunct `d` of rule `i`.

@@ -2,4 +2,4 @@ pub mod Agree
 pub mod Again
 pub mod Passed
 pub mod Done
-pub mod Full
+pub mod Entered

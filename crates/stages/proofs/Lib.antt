@@ -1,5 +1,7 @@
 pub mod After
+pub mod Bounds
 pub mod Coming
+pub mod DatalogRules
 pub mod Handled
 pub mod Later
 pub mod Most

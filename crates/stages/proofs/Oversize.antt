@@ -16,7 +16,7 @@ use Rattle.terms.proofs.Tables.{rows-length}
 use Rattle.triggers.specs.Match.{Body, holdsRow}
 use Rattle.triggers.specs.Next.{triggersFrom}
 use Rattle.triggers.specs.Encode.{spread}
-use Rattle.unhandled.specs.Unhandled.{unhandledFrom}
+use Rattle.unhandled.specs.Unhandled.{unhandledFrom, NothingUnhandled}
 use Rattle.triggers.proofs.Encode.{triggers-are}
 use Rattle.unhandled.proofs.Onward.{unhandled-kept}
 use Rattle.rules.specs.Places.{aritiesOf, rulesOf, ruleOf, atomRows, atomArities}
@@ -25,7 +25,7 @@ use Rattle.rules.proofs.Places.{rule-well-formed}
 use Rattle.stages.specs.Large.{large, Tabled, tables}
 use Rattle.stages.specs.Stage.{stageOf, Tried}
 use Rattle.making.proofs.Bodies.{bodyOf, encodes}
-use Rattle.stages.proofs.Sizes.{arity-few, largeOver, large-is, any-large-is, is-body}
+use Rattle.stages.proofs.Sizes.{arity-few, largeOver, largeRule, large-is, any-large-is, is-body, no-large, not-blockable}
 use Rattle.stages.proofs.Handled.{handled-is}
 
 -- what passes a test is found among those kept, if what is left out fails it
@@ -65,6 +65,17 @@ module _ (form terms : List ℕ) (n : ℕ) (facts : List ℕ) (m old : ℕ) (h :
       ∙ any-kept (large terms (setOf (universal r))) (λ (ys : List ℕ). not (holdsRow (bodyOf (r .body)) facts old ys))
       (triggersFrom (bodyOf (r .body)) facts m n (replicate 8 0)) (λ xs k e. handled-small b xs k (not-false (holdsRow (bodyOf (r .body)) facts old xs) e))
       ∙ any-large-is form terms n facts m h i l
+
+  -- a rule whose triggers were all handled has no large one
+  pub idle-not-large : NothingUnhandled (atomRows (r .body)) (length (r .body)) facts m old → largeRule (tables terms n facts m) r ≡ false
+  unfolding any
+  idle-not-large nothing = go (case (blockable r))
+    where
+      go : (blockable r ≡ true) ⊎ (blockable r ≡ false) → largeRule (tables terms n facts m) r ≡ false
+      go (inl b) =
+          no-large (tables terms n facts m) r
+          (sym (unhandled-large b) ∙ ap (any (large terms (setOf (universal r)))) (nothing (atomArities (r .body)) n (replicate 8 0)))
+      go (inr b) = not-blockable (tables terms n facts m) r b
 
   -- a body as it comes out of the form, number by number
   module _ (atoms : List (List ℕ)) (arities : List ℕ) (count set : ℕ) (p : atoms ≡ atomRows (r .body)) (q : arities ≡ atomArities (r .body)) (c : count ≡ length (r .body))

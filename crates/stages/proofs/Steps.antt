@@ -18,11 +18,6 @@ use Rattle.stages.specs.Large.{placesOf, large}
 abbrev pub turn : Bool → ℕ
 turn going = elim going [ true ↦ 1 | false ↦ 0 ]
 
--- that is one at most
-pub turn-most : (going : Bool) → turn going ≤ 1
-turn-most true = omega arith
-turn-most false = omega arith
-
 module _ {b : Body} {facts : List ℕ} {m old n : ℕ} {start : List ℕ} {found : Bool} {xs : List ℕ} (next : NextUnhandled b facts m old n start found xs) where
   module _ (p : List ℕ → Bool) where
     pub next-passes : found ≡ true → p xs ≡ true → any p (unhandledFrom b facts m old n start) ≡ true
@@ -43,11 +38,11 @@ module _ {b : Body} {facts : List ℕ} {m old n : ℕ} {start : List ℕ} {found
   next-fewer f = let e = ap length (next .first f) in omega arith
 
 -- places counted up to 65
-module _ (terms : List ℕ) (set : ℕ) (xs : List ℕ) (r : ℕ) (e : r ≡ min (placesOf terms set xs) 65) where
-  pub large-yes : r ≡ 65 → large terms set xs ≡ true
+module _ (terms : List ℕ) (set : ℕ) (xs : List ℕ) (r : ℕ) (e : min r 65 ≡ min (placesOf terms set xs) 65) where
+  pub large-yes : 64 < r → large terms set xs ≡ true
   unfolding large
   large-yes h = lt-ltb 64 (placesOf terms set xs) (omega arith)
 
-  pub large-no : (r ≡ 65 → ⊥) → large terms set xs ≡ false
+  pub large-no : r ≤ 64 → large terms set xs ≡ false
   unfolding large
   large-no h = le-ltb 64 (placesOf terms set xs) (omega arith)

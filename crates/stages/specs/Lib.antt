@@ -1,3 +1,4 @@
 pub mod Large
+pub mod Pinning
 pub mod Stage
 pub mod Tested

@@ -1,7 +1,6 @@
 -- `making::looping::with_atom` meets its contract. The loop's invariant: the first `p` variables have been looked at, and the row of the function
 -- tested last makes no difference. Assumes nothing.
-use mathlib.Core.Path.{_≡_, refl, sym, ap, _∙_}
-use mathlib.Core.Logic.{⊎-elim}
+use mathlib.Core.Path.{_≡_, sym, ap, _∙_}
 use mathlib.Core.List.{List}
 use Prim.Native.Nat.{ℕ, _+_, _-_, _≤_}
 use native.Mathlib.Omega.{arith}
@@ -9,26 +8,27 @@ use lib.ListN.{getD}
 use Rattle.model.specs.Lists.{numbersFrom}
 use Rattle.terms.specs.Rows.{rows}
 use Rattle.stage_rows.specs.Making.{firstCyclic}
-use Rattle.making.specs.Looping.{loopOf, rowWith, rowsWith}
-use Rattle.making.proofs.Cyclic.{first-none, first-append, first-without, tested-this, tested-still, rowsWith-none, rowsWith-more}
+use Rattle.making.specs.Looping.{loopOf, rowWith, rowsWith, Settled}
+use Rattle.making.proofs.Cyclic.{first-none, first-append, rowsWith-none, rowsWith-more}
 use Rattle.making.proofs.looping.with_atom.Statement.{statement}
 use Rattle.making.proofs.looping.with_atom.Tie as tie
 
 abbrev Inv-loop : tie.InvT-loop
 Inv-loop arity template terms n atom functions found₀ row₀ tested₀ p₀ found row tested p =
     (p ≤ arity) × (loopOf found row ≡ firstCyclic (rows 10 n terms) (loopOf found₀ row₀) (rowsWith functions template (numbersFrom atom 1 p)))
-    × (loopOf found row ≡ firstCyclic (rows 10 n terms) (loopOf found row) (rowWith tested template))
+    × Settled (rows 10 n terms) template found row tested
 
 abbrev μ-loop : tie.MeasureT-loop
 μ-loop arity template terms n atom functions found₀ row₀ tested₀ p₀ found row tested p = arity - p
 
 loop-holds : tie.Need-loop-holds Inv-loop μ-loop
 loop-holds c =
-    let a = c .before .before .args in
+    let s = c .before .before in
+    let a = s .args in
     let ts = rows 10 (a .n) (a .terms .now) in (
       omega arith,
       sym (ap (firstCyclic ts (loopOf (a .before .found) (a .before .row))) (rowsWith-none (a .t3) (a .template) (a .t1)) ∙ first-none ts (loopOf (a .before .found) (a .before .row))),
-      first-without ts (a .before .found) (a .before .row) 0 (a .template) refl,
+      s .pre .4,
     )
 
 add-function : tie.Need-add-function Inv-loop μ-loop
@@ -60,27 +60,29 @@ loop-less c = omega arith
 
 loop-again : tie.Need-loop-again Inv-loop μ-loop
 loop-again c =
-    let w = c .before .before .with-variable .ensures in
-    let l = c .before .before .before .before in
+    let w = c .before .with-variable .ensures in
+    let l = c .before .before .before in
     let a = l .before .before .before .args in
     let ts = rows 10 (a .n) (a .terms .now) in
     let f = getD (a .t3) (getD (a .t1) (l .loop .p + 1) 0) 0 in
     let seen = rowsWith (a .t3) (a .template) (numbersFrom (a .t1) 1 (l .loop .p)) in (
       omega arith,
-      w
+      w .0
           ∙ ap (λ (ls : List (List ℕ)). firstCyclic ts ls (rowWith f (a .template))) (l .loop .inv .1)
           ∙ sym (first-append ts (loopOf (a .before .found) (a .before .row)) seen (rowWith f (a .template)))
           ∙ ap (firstCyclic ts (loopOf (a .before .found) (a .before .row))) (sym (rowsWith-more (a .t3) (a .template) (a .t1) (l .loop .p))),
-      ⊎-elim (λ t. tested-this ts f (a .template) (loopOf (l .loop .found) (l .loop .row)) w (t .1)) (λ t. tested-still ts f (a .template) (loopOf (l .loop .found) (l .loop .row)) w (t .0 .left) (t .1) (l .loop .inv .2)) (c .if1 .came),
+      w .1,
     )
 
 returns : tie.Need-returns Inv-loop μ-loop
 returns c =
     let l = c .before in
     let a = l .before .before .before .args in
-    let e : l .loop .p ≡ a .arity = omega arith in
-    l .loop .inv .1
-    ∙ ap (λ (k : ℕ). firstCyclic (rows 10 (a .n) (a .terms .now)) (loopOf (a .before .found) (a .before .row)) (rowsWith (a .t3) (a .template) (numbersFrom (a .t1) 1 k))) e
+    let e : l .loop .p ≡ a .arity = omega arith in (
+      l .loop .inv .1
+          ∙ ap (λ (k : ℕ). firstCyclic (rows 10 (a .n) (a .terms .now)) (loopOf (a .before .found) (a .before .row)) (rowsWith (a .t3) (a .template) (numbersFrom (a .t1) 1 k))) e,
+      l .loop .inv .2,
+    )
 
 pub with-atom-spec : {M : Type 1} → statement M
 with-atom-spec =
