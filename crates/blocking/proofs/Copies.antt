@@ -13,12 +13,12 @@ use lib.Seq.{drop-drop, drop-cons, getD-take, getD-drop, take-take, take-all, ta
 use borrow.Author.Tests.{eqb-true}
 use Rattle.model.specs.Lists.{numbersFrom, padded}
 use Rattle.laws.proofs.Bools.{case}
-use Rattle.terms.specs.Rows.{rows, written}
-use Rattle.terms.specs.Terms.{Ordered, functionOf, arityOf, argumentOf, argumentsOf}
-use Rattle.terms.proofs.Tables.{rows-length}
+use Rattle.tables.specs.Rows.{rows, written}
+use Rattle.tables.specs.Terms.{Ordered, functionOf, arityOf, argumentOf, argumentsOf}
+use Rattle.tables.proofs.Tables.{rows-length}
 use Rattle.outputs.proofs.Rows.{padded-more, padded-length}
-use Rattle.terms.proofs.Terms.{argumentsOf-before}
-use Rattle.blocking.specs.Copies.{constantRow, argumentsIn, Copies, copyAll, copyTerm}
+use Rattle.tables.proofs.Terms.{argumentsOf-before}
+use Rattle.rows.specs.Copies.{constantRow, argumentsIn, Copies, copyAll, copyTerm}
 use Rattle.blocking.specs.Copying.{copiedArity}
 use Rattle.outputs.specs.Room.{Room}
 

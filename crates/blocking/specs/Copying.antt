@@ -6,11 +6,11 @@ use Prim.Native.Nat.{ℕ, _-_, _<_}
 use lib.Dec.{eqb}
 use lib.ListN.{getD, set}
 use Rattle.rows.specs.Triggers.{numbers}
-use Rattle.terms.specs.Rows.{rows}
-use Rattle.terms.specs.Terms.{functionOf, arityOf}
-use Rattle.rules.specs.Sets.{has, elements}
+use Rattle.tables.specs.Rows.{rows}
+use Rattle.tables.specs.Terms.{functionOf, arityOf}
+use Rattle.form.specs.Sets.{has, elements}
 use Rattle.outputs.specs.Atoms.{valueOf}
-use Rattle.blocking.specs.Copies.{Copies, copyTerm, copyAll, copies}
+use Rattle.rows.specs.Copies.{Copies, copyTerm, copyAll, copies}
 
 -- how many arguments of term i are copied: none of a constant
 unfoldable pub copiedArity : List ℕ → ℕ → ℕ

@@ -1,5 +1,5 @@
 -- Which outcome of a test over rows each case of the answer is. Assumes nothing.
-use Rattle.blocking.specs.Test as rows
+use Rattle.rows.specs.Test as rows
 use Rattle.blocking.specs.declared.Outcome.{Outcome}
 use Rattle.blocking.specs.declared.Outcome.the-variants.{Over, Blocked, Free}
 

@@ -10,18 +10,18 @@ use Rattle.model.specs.Format.{Parsed, good, bad, read}
 use Rattle.model.specs.Form.{formLength, decoded, done, refusal, Reading, reading}
 use Rattle.model.specs.Stages.{Verdict, accepted, looping, refused, stage, cyclicTerms, verdict}
 use Rattle.model.specs.Tables.{termRow, factRow, fronted, termsFront, factsFront, checked}
-use Rattle.verdict.specs.declared.Verdict as declared
-use Rattle.verdict.specs.Verdict.{meant}
-use Rattle.stage_laws.proofs.Verdict.{Reached, reached-facts-within, reached-terms-within, accepted-says, looping-says}
-use Rattle.format_laws.proofs.RoundTrip.{reading-good, reading-bad}
-use Rattle.form_laws.proofs.Reading.{read-holds}
-use Rattle.table_laws.proofs.Courses.{Fronts, checked-bad}
+use Rattle.dmfa.specs.declared.verdict.Verdict as declared
+use Rattle.dmfa.specs.Verdict.{meant}
+use Rattle.laws_stages.proofs.Verdict.{Reached, reached-facts-within, reached-terms-within, accepted-says, looping-says}
+use Rattle.laws_format.proofs.RoundTrip.{reading-good, reading-bad}
+use Rattle.reader.proofs.Held.{read-holds}
+use Rattle.laws_tables.proofs.Courses.{Fronts, checked-bad}
 use Rattle.rows.specs.Tables.{flat}
-use Rattle.terms.specs.Rows.{rows}
-use Rattle.terms.proofs.Tables.{rows-length}
-use Rattle.rules.specs.Places.{Held}
-use Rattle.stage_rows.specs.Judging.{Judged, refusedWith, judged}
-use Rattle.dmfa_laws.proofs.Judging.{shown, facts-count, terms-count, judged-shown, leftBy, checked-is-judged}
+use Rattle.tables.specs.Rows.{rows}
+use Rattle.tables.proofs.Tables.{rows-length}
+use Rattle.form.specs.Places.{Held}
+use Rattle.rows.specs.Judging.{Judged, refusedWith, judged}
+use Rattle.laws_dmfa.proofs.Judging.{shown, facts-count, terms-count, judged-shown, leftBy, checked-is-judged}
 use Rattle.dmfa.specs.Judging.{answerOf}
 use Rattle.dmfa.proofs.Fronts.{flat-rows}
 

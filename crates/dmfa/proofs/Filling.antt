@@ -8,7 +8,7 @@ use lib.Seq.{length-take-le, take-at, drop-at, drop-append-add, drop-drop}
 use borrow.Rule.Slice.PartMut.{putMid, post-is}
 use Rattle.model.specs.Lists.{padded}
 use Rattle.model.specs.Tables.{fronted}
-use Rattle.terms.specs.Rows.{written}
+use Rattle.tables.specs.Rows.{written}
 
 module _ (records table : List ℕ) (n front : ℕ) (known : n ≤ length records) (room : n ≤ front) (fits : front ≤ length table) where
   taken : length (take n records) ≡ n

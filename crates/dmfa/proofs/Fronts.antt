@@ -7,7 +7,7 @@ use lib.ListN.{take, drop}
 use lib.Seq.{take-add}
 use Rattle.model.specs.Lists.{collect}
 use Rattle.rows.specs.Tables.{flat}
-use Rattle.terms.specs.Rows.{rows}
+use Rattle.tables.specs.Rows.{rows}
 
 pub flat-rows : (w n : ℕ) (t : List ℕ) → flat (rows w n t) ≡ take (n * w) t
 unfolding flat rows collect

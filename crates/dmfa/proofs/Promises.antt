@@ -13,14 +13,14 @@ use Rattle.model.specs.Tables.{Checked, checked, termsFront, factsFront}
 use Rattle.model.specs.Spelled.{termAt}
 use Rattle.model.specs.Published.{Dmfa}
 use Rattle.model.specs.Demand.{Demand3}
-use Rattle.format_laws.proofs.Bytes.{read-well-formed}
-use Rattle.stage_laws.proofs.Verdict.{Looping, looping-says}
-use Rattle.published_laws.proofs.Dmfa.{Witness, accepted-is-dmfa, accepted-is-acyclic, cyclic-is-reached}
-use Rattle.table_laws.proofs.Courses.{Course, short, faulty, judged, course, refused-untouched, refused-zeroed}
-use Rattle.table_laws.proofs.Checked.{Judged, accepted-judged, looping-judged, checked-accepted-spelled, checked-cyclic-shown, checked-kept}
-use Rattle.demand.proofs.OfCheck.{demand-3-of-check}
-use Rattle.verdict.specs.Verdict.{meant}
-use Rattle.verdict.specs.declared.Verdict.{Verdict}
+use Rattle.laws_format.proofs.Bytes.{read-well-formed}
+use Rattle.laws_stages.proofs.Verdict.{Looping, looping-says}
+use Rattle.laws_published.proofs.Dmfa.{Witness, accepted-is-dmfa, accepted-is-acyclic, cyclic-is-reached}
+use Rattle.laws_tables.proofs.Courses.{Course, short, faulty, judged, course, refused-untouched, refused-zeroed}
+use Rattle.laws_tables.proofs.Checked.{Judged, accepted-judged, looping-judged, checked-accepted-spelled, checked-cyclic-shown, checked-kept}
+use Rattle.laws_demand.proofs.OfCheck.{demand-3-of-check}
+use Rattle.dmfa.specs.Verdict.{meant}
+use Rattle.dmfa.specs.declared.verdict.Verdict.{Verdict}
 use Rattle.dmfa.specs.Promises.{Gave, listed, Demand1, Shown, Demand2, Promised}
 
 module _ (bytes terms₀ facts₀ : List ℕ) (r : Verdict) (terms facts : List ℕ) (g : Gave bytes terms₀ facts₀ r terms facts) where

@@ -15,8 +15,8 @@ use Rattle.model.specs.Tables.{checked, fronted, termsFront, factsFront}
 use Rattle.model.specs.Spelled.{termAt, spelledFacts}
 use Rattle.model.specs.Published.{Dmfa}
 use Rattle.model.specs.Demand.{Demand3}
-use Rattle.verdict.specs.Verdict.{meant}
-use Rattle.verdict.specs.declared.Verdict.{Verdict}
+use Rattle.dmfa.specs.Verdict.{meant}
+use Rattle.dmfa.specs.declared.verdict.Verdict.{Verdict}
 
 -- the contract: what `check` answered and left, given bytes and two tables
 abbrev pub Gave : List ℕ → List ℕ → List ℕ → Verdict → List ℕ → List ℕ → Type 0

@@ -1,25 +1,26 @@
-// The check: stages, verdict and the caller's tables. The contracts cite the definitions over rows of `stage_rows`.
+// The check: stages, verdict and the caller's tables. The contracts cite the definitions over rows of `rows`.
+pub mod caller_tables;
 pub mod critical;
-pub mod front;
 pub mod judging;
+pub mod verdict;
 
-use crate::front::fill;
+use crate::caller_tables::fill;
 use crate::judging::Judged;
 use crate::judging::judge;
-use ruleset::Transfer;
-use verdict::Verdict;
+use crate::verdict::Verdict;
+use reader::Transfer;
 ghost use mathlib.Core.Path.{_≡_};
 ghost use mathlib.Core.Bool.{true, false};
 ghost use Prim.Native.Nat.{_≤_};
 ghost use lib.ListN.{length};
 ghost use Rattle.model.specs.Form.{decoded};
 ghost use Rattle.model.specs.Tables.{checked, termsFront, factsFront};
-ghost use Rattle.verdict.specs.Verdict.{meant};
-ghost use Rattle.rules.specs.Places.{Held};
-ghost use Rattle.rules.specs.Functions.{Numbered};
+ghost use Rattle.dmfa.specs.Verdict.{meant};
+ghost use Rattle.form.specs.Places.{Held};
+ghost use Rattle.form.specs.Functions.{Numbered};
 ghost use Rattle.outputs.specs.Hashed.{Kept};
-ghost use Rattle.stage_rows.specs.Judging.{judged};
-ghost use Rattle.dmfa_laws.proofs.Judging.{leftBy};
+ghost use Rattle.rows.specs.Judging.{judged};
+ghost use Rattle.laws_dmfa.proofs.Judging.{leftBy};
 
 // The answer, with room for the stages' terms and for their facts, which are hashed, and the fronts of the caller's two tables. These stay as
 // they were if the room for terms was short.
@@ -87,7 +88,7 @@ fn check_form(form: &[u16], terms: &mut [u16], facts: &mut [u16]) -> Verdict
     ensures { λ r. ⌜ record { verdict = meant r; terms = now (terms .exit); facts = now (facts .exit) } ≡ leftBy (judged (decoded (now (form .entry)))) (now (terms .entry)) (now (facts .entry)) ⌝ }
 {
     let mut before = [0u16; 256];
-    rules::functions::number_functions(form, &mut before[..]);
+    form::functions::number_functions(form, &mut before[..]);
     let small = check_small(form, &before[..], &mut *terms, &mut *facts);
     if small.short {
         return check_large(form, &before[..], &mut *terms, &mut *facts);
@@ -106,7 +107,7 @@ pub fn check(bytes: &[u8], terms: &mut [u16], facts: &mut [u16]) -> Verdict
         return Verdict::Refused(1, 0);
     }
     let mut form = [0u16; 6850];
-    let read = ruleset::reader::read(bytes, &mut form[..]);
+    let read = reader::read(bytes, &mut form[..]);
     match read {
         Transfer::Done(_) => check_form(&form[..], &mut *terms, &mut *facts),
         Transfer::Refusal(refusal, place) => Verdict::Refused(refusal as usize, place),

@@ -4,8 +4,8 @@ use mathlib.Core.List.{List}
 use Prim.Native.Nat.{ℕ}
 use Rattle.model.specs.Form.{Transfer}
 use Rattle.model.specs.Tables.{Checked}
-use Rattle.verdict.specs.declared.Verdict.{Verdict}
-use Rattle.verdict.specs.Verdict.{meant}
+use Rattle.dmfa.specs.declared.verdict.Verdict.{Verdict}
+use Rattle.dmfa.specs.Verdict.{meant}
 use Rattle.embed.specs.Numbers.{ofChecked, transferred, transferNumber, transferValue}
 
 -- the verdict is of a known case

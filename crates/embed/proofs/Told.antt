@@ -14,8 +14,8 @@ use Rattle.model.specs.Stages.{Verdict, accepted, looping, refused}
 use Rattle.model.specs.Form.{Transfer, done, refusal, formLength, reading, Writing, writing}
 use Rattle.model.specs.Tables.{termsFront, factsFront}
 use Rattle.laws.proofs.Bools.{case}
-use Rattle.format_laws.proofs.RoundTrip.{reading-short, reading-bad, reading-good, Written, faulty, short, whole, writing-written}
-use Rattle.table_laws.proofs.Refusals.{Faulty, read-faulty}
+use Rattle.laws_format.proofs.RoundTrip.{reading-short, reading-bad, reading-good, Written, faulty, short, whole, writing-written}
+use Rattle.laws_tables.proofs.Refusals.{Faulty, read-faulty}
 use Rattle.report.specs.Printing.{printing, textRoom}
 use Rattle.embed.specs.Numbers.{verdictNumber, verdictValues, transferNumber, transferValue}
 

@@ -1,12 +1,12 @@
 // The functions of the static library (bindings/c/rulfjen.h): numbers and lists cross, and nothing else. The contracts equate all that a
 // call returns and leaves behind with the definitions, by the numbers of specs/Numbers.
-use ruleset::Transfer;
-use verdict::Verdict;
+use dmfa::verdict::Verdict;
+use reader::Transfer;
 ghost use mathlib.Core.Path.{_≡_};
 ghost use lib.ListN.{replicate};
 ghost use Rattle.model.specs.Form.{reading, writing};
 ghost use Rattle.model.specs.Tables.{checked, termsFront, factsFront};
-ghost use Rattle.ruleset.specs.Transfer.{transferOf};
+ghost use Rattle.reader.specs.Transfer.{transferOf};
 ghost use Rattle.report.specs.Printing.{printing};
 ghost use Rattle.embed.specs.Numbers.{ofChecked, ofReading, ofWriting, ofPrinting, transferNumber, transferValue};
 
@@ -58,7 +58,7 @@ pub extern "C" fn rulfjen_check(
 pub extern "C" fn rulfjen_read(book: &[u8], form: &mut [u16], value: &mut usize) -> usize
     ensures { λ r. ⌜ ofReading (reading (now (book .entry)) (now (form .entry))) ≡ record { number = r; value = now (value .exit); list = now (form .exit) } ⌝ }
 {
-    let answer = ruleset::reader::read(book, &mut *form);
+    let answer = reader::read(book, &mut *form);
     transfer(answer, &mut *value)
 }
 

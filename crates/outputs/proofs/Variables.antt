@@ -15,7 +15,7 @@ use Rattle.model.specs.Rules.{names}
 use Rattle.laws.proofs.Bools.{case}
 use Rattle.laws.proofs.Lists.{keep-yes, keep-no, keep-mem, index-here, index-there, eqb-decides}
 use Rattle.rows.specs.Triggers.{rising}
-use Rattle.rules.specs.Sets.{has, elements}
+use Rattle.form.specs.Sets.{has, elements}
 use Rattle.outputs.specs.Skolem.{functionWith, templateWith, placed}
 use Rattle.outputs.proofs.Rows.{padded-more}
 

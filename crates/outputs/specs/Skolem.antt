@@ -5,7 +5,7 @@ use Prim.Native.Nat.{ℕ, suc, _+_}
 use lib.Dec.{eqb}
 use lib.ListN.{length, set}
 use Rattle.model.specs.Lists.{index, padded}
-use Rattle.rules.specs.Sets.{has, elements}
+use Rattle.form.specs.Sets.{has, elements}
 
 -- the Skolem function of a variable, 0 if it is not existential
 unfoldable pub functionWith : ℕ → ℕ → ℕ → ℕ

@@ -3,7 +3,7 @@
 ghost use mathlib.Core.Path.{_≡_};
 ghost use Prim.Native.Nat.{ℕ, _<_, _+_};
 ghost use lib.ListN.{getD};
-ghost use Rattle.rules.specs.Sets.{elements};
+ghost use Rattle.form.specs.Sets.{elements};
 ghost use Rattle.outputs.specs.Atoms.{valueOf};
 ghost use Rattle.outputs.specs.Skolem.{functionWith, templateWith, placed};
 
@@ -12,8 +12,8 @@ fn function_of(existential: u8, before: u16, v: u8) -> u16
     requires { ⌜ (v < 8) × (before < 65000) ⌝ }
     ensures { λ r. ⌜ r ≡ functionWith existential before v ⌝ }
 {
-    if rules::variables::contains(existential, v) {
-        return before + 1 + rules::variables::rank(existential, v) as u16;
+    if form::variables::contains(existential, v) {
+        return before + 1 + form::variables::rank(existential, v) as u16;
     }
     0
 }
@@ -38,8 +38,8 @@ fn place_argument(row: [u16; 10], frontier: u8, v: u8, number: u16) -> [u16; 10]
     ensures { λ r. ⌜ r ≡ placed row frontier v number ⌝ }
 {
     let mut next = row;
-    if rules::variables::contains(frontier, v) {
-        next[2 + rules::variables::rank(frontier, v)] = number;
+    if form::variables::contains(frontier, v) {
+        next[2 + form::variables::rank(frontier, v)] = number;
     }
     next
 }
@@ -49,7 +49,7 @@ pub fn template(frontier: u8, numbers: [u16; 8]) -> [u16; 10]
     ensures { λ r. ⌜ r ≡ templateWith (elements frontier) (valueOf numbers) ⌝ }
 {
     let mut row: [u16; 10] = [0; 10];
-    row[1] = rules::variables::set_size(frontier) as u16;
+    row[1] = form::variables::set_size(frontier) as u16;
     let mut v = 0;
     while v < 8 {
         row = place_argument(row, frontier, v as u8, numbers[v]);

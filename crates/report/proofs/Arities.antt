@@ -12,10 +12,10 @@ use Rattle.model.specs.Format.{Parsed, good, bad, read}
 use Rattle.model.specs.Form.{formLength, aritiesPlace, ruleRow, encoded, Reading, reading}
 use Rattle.model.specs.Stages.{Verdict, accepted, looping, refused}
 use Rattle.model.specs.Text.{line, lines, acceptedWord, cyclicWord, factWord, loopWord, termNumbers, factNumbers, records, text}
-use Rattle.format_laws.proofs.Bytes.{read-well-formed}
-use Rattle.format_laws.proofs.Form.{encoded-length}
-use Rattle.format_laws.proofs.RoundTrip.{reading-bad, reading-good}
-use Rattle.table_laws.proofs.Rows.{length-padded}
+use Rattle.laws_format.proofs.Bytes.{read-well-formed}
+use Rattle.laws_format.proofs.Form.{encoded-length}
+use Rattle.laws_format.proofs.RoundTrip.{reading-bad, reading-good}
+use Rattle.laws_tables.proofs.Rows.{length-padded}
 use Rattle.report.specs.Lines.{termLines}
 
 -- a list that has the arities of the rule set in the bytes, if there is one

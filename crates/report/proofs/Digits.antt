@@ -11,7 +11,7 @@ use lib.ListN.{length, getD, take, drop, set, length-append}
 use lib.Seq.{take-suc, take-length, drop-length, take-at, getD-at, drop-cons, length-take-le}
 use borrow.Author.Tests.{lt-ltb, le-ltb, ltb-true, ltb-false}
 use Rattle.model.specs.Text.{digits, decimal}
-use Rattle.terms.specs.Rows.{written}
+use Rattle.tables.specs.Rows.{written}
 use Rattle.laws.proofs.Bools.{case}
 use Rattle.report.specs.Writing.{Room}
 use Rattle.report.proofs.Writing.{written-none, written-before}

@@ -11,18 +11,18 @@ use Rattle.model.specs.Rules.{RuleSet}
 use Rattle.model.specs.WellFormed.{WellFormed}
 use Rattle.model.specs.Stages as stages
 use Rattle.model.specs.Tables.{Checked, termRow, factRow, recorded, left, checked}
-use Rattle.format_laws.proofs.Lists.{getD-mem, length-collect}
-use Rattle.format_laws.proofs.Bytes.{read-well-formed}
-use Rattle.table_laws.proofs.Rows.{row-collect}
-use Rattle.table_laws.proofs.Terms.{Recordable, plain, marked, recordable-mem, length-termRow, row-table}
-use Rattle.table_laws.proofs.Facts.{length-factRow}
-use Rattle.table_laws.proofs.Recorded.{Recorded, terms-begin, facts-begin}
-use Rattle.table_laws.proofs.Fronts.{Within}
-use Rattle.table_laws.proofs.Courses.{Course, short, faulty, judged, course, left-verdict}
-use Rattle.table_laws.proofs.Spelled.{Held, accepted-held, looping-held}
-use Rattle.verdict.specs.declared.Verdict.{Verdict}
-use Rattle.verdict.specs.declared.Verdict.the-variants.{Accepted, Cyclic, Refused}
-use Rattle.verdict.specs.Verdict.{meant}
+use Rattle.laws_format.proofs.Lists.{getD-mem, length-collect}
+use Rattle.laws_format.proofs.Bytes.{read-well-formed}
+use Rattle.laws_tables.proofs.Rows.{row-collect}
+use Rattle.laws_tables.proofs.Terms.{Recordable, plain, marked, recordable-mem, length-termRow, row-table}
+use Rattle.laws_tables.proofs.Facts.{length-factRow}
+use Rattle.laws_tables.proofs.Recorded.{Recorded, terms-begin, facts-begin}
+use Rattle.laws_tables.proofs.Fronts.{Within}
+use Rattle.laws_tables.proofs.Courses.{Course, short, faulty, judged, course, left-verdict}
+use Rattle.laws_tables.proofs.Spelled.{Held, accepted-held, looping-held}
+use Rattle.dmfa.specs.declared.verdict.Verdict.{Verdict}
+use Rattle.dmfa.specs.declared.verdict.Verdict.the-variants.{Accepted, Cyclic, Refused}
+use Rattle.dmfa.specs.Verdict.{meant}
 use Rattle.report.specs.Legible.{LegibleTerms, LegibleFacts, Legible}
 use Rattle.report.proofs.Rows.{row-at, row-head, fewer-terms}
 use Rattle.report.proofs.Arities.{Declares}

@@ -10,7 +10,7 @@ use lib.Seq.{take-suc}
 use Rattle.model.specs.Lists.{collect}
 use Rattle.model.specs.Text.{decimal, line, lines, records}
 use Rattle.laws.proofs.Lists.{collect-append}
-use Rattle.table_laws.proofs.Lines.{spaced}
+use Rattle.laws_tables.proofs.Lines.{spaced}
 use Rattle.report.specs.Lines.{termLines, factLines}
 
 module _ (f : ℕ → List ℕ) where

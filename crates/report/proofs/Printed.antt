@@ -10,8 +10,8 @@ use Rattle.model.specs.Format.{good, read}
 use Rattle.model.specs.Stages.{refused}
 use Rattle.model.specs.Tables.{Checked, checked}
 use Rattle.model.specs.Text.{text, declared, textOf}
-use Rattle.table_laws.proofs.Courses.{Course, short, faulty, judged, course}
-use Rattle.table_laws.proofs.Printed.{length-textOf}
+use Rattle.laws_tables.proofs.Courses.{Course, short, faulty, judged, course}
+use Rattle.laws_tables.proofs.Printed.{length-textOf}
 use Rattle.report.specs.Writing.{Room}
 use Rattle.report.proofs.Arities.{Declares, same-text}
 

@@ -12,11 +12,11 @@ use borrow.Author.Tests.{le-leb, lt-leb, leb-true}
 use Rattle.model.specs.Form.{done, refusal}
 use Rattle.model.specs.Tables.{Checked, checked, termsFront, factsFront}
 use Rattle.model.specs.Text.{text, textOf}
-use Rattle.verdict.specs.declared.Verdict.{Verdict}
-use Rattle.verdict.specs.Verdict.{meant}
+use Rattle.dmfa.specs.declared.verdict.Verdict.{Verdict}
+use Rattle.dmfa.specs.Verdict.{meant}
 use Rattle.laws.proofs.Bools.{case, and-true}
-use Rattle.table_laws.proofs.Printed.{length-textOf}
-use Rattle.terms.specs.Rows.{written}
+use Rattle.laws_tables.proofs.Printed.{length-textOf}
+use Rattle.tables.specs.Rows.{written}
 use Rattle.report.specs.Writing.{Room, Writes}
 use Rattle.report.specs.Legible.{Legible}
 use Rattle.report.specs.Printing.{Printing, printing, textRoom}

@@ -7,7 +7,7 @@ use native.Mathlib.Numerals.{add-one}
 use native.Mathlib.Omega.{arith}
 use lib.ListN.{length, take, drop, set, length-append, length-take, length-drop, take-append-drop}
 use lib.Seq.{take-at, drop-at, drop-drop, length-take-le, append-snoc, set-append-left, set-split, take-set-lt, drop-set-lt}
-use Rattle.terms.specs.Rows.{written}
+use Rattle.tables.specs.Rows.{written}
 use Rattle.report.specs.Writing.{Room, Writes}
 
 pub length-written : (s : List ℕ) (at : ℕ) (out : List ℕ) → Room s at out → length (written s at out) ≡ length out

@@ -8,8 +8,8 @@ use lib.ListN.{length, drop}
 use Rattle.model.specs.Form.{Transfer, done, refusal}
 use Rattle.model.specs.Tables.{Checked, checked, termsFront, factsFront}
 use Rattle.model.specs.Text.{textOf}
-use Rattle.verdict.specs.declared.Verdict.{Verdict}
-use Rattle.verdict.specs.Verdict.{meant}
+use Rattle.dmfa.specs.declared.verdict.Verdict.{Verdict}
+use Rattle.dmfa.specs.Verdict.{meant}
 
 -- so many bytes have room for every text
 abbrev pub textRoom : ℕ

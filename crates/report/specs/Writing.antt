@@ -3,7 +3,7 @@ use mathlib.Core.Path.{_≡_}
 use mathlib.Core.List.{List}
 use Prim.Native.Nat.{ℕ, _+_, _≤_}
 use lib.ListN.{length}
-use Rattle.terms.specs.Rows.{written}
+use Rattle.tables.specs.Rows.{written}
 
 -- the bytes have room from the place on
 abbrev pub Room : List ℕ → ℕ → List ℕ → Type 0

@@ -1,15 +1,15 @@
 // The text of an answer, byte by byte. Every function writes into `out` from a place on and answers the place behind what it wrote. The
 // contracts cite the model's Text, and specs/Writing, specs/Legible and specs/Printing.
-use ruleset::Transfer;
-use verdict::Verdict;
+use dmfa::verdict::Verdict;
+use reader::Transfer;
 ghost use mathlib.Core.Path.{_≡_};
 ghost use mathlib.Core.List.{[], _∷_, _++_};
 ghost use Prim.Native.Nat.{suc, _≤_};
 ghost use lib.ListN.{length};
 ghost use Rattle.model.specs.Text.{decimal, line, refusedWord, termWord, factWord, loopWord, termNumbers, factNumbers, records, text, textOf};
-ghost use Rattle.ruleset.specs.Transfer.{transferOf};
-ghost use Rattle.verdict.specs.Verdict.{meant};
-ghost use Rattle.table_laws.proofs.Lines.{spaced};
+ghost use Rattle.reader.specs.Transfer.{transferOf};
+ghost use Rattle.dmfa.specs.Verdict.{meant};
+ghost use Rattle.laws_tables.proofs.Lines.{spaced};
 ghost use Rattle.report.specs.Writing.{Room, Writes};
 ghost use Rattle.report.specs.Printing.{Answer, textRoom, printing};
 ghost use Rattle.report.specs.Lines.{termLines, factLines};
@@ -250,7 +250,7 @@ fn write_answer(
     ensures { λ r. ⌜ Writes (textOf (now (bytes .entry)) (record { verdict = meant verdict; terms = now (terms .entry); facts = now (facts .entry) })) 0 (now (out .entry)) (now (out .exit)) r ⌝ }
 {
     let mut form = [0u16; 6850];
-    ruleset::reader::read(bytes, &mut form);
+    reader::read(bytes, &mut form);
     write_text(verdict, &form[6786..6850], terms, facts, &mut *out)
 }
 

@@ -1,3 +1,9 @@
 pub mod Tables
 pub mod Triggers
 pub mod Outputs
+pub mod Saturation
+pub mod Copies
+pub mod Origins
+pub mod Test
+pub mod Making
+pub mod Judging

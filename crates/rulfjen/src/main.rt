@@ -1,5 +1,5 @@
 // The program: standard input, up to 6,856 bytes of it, to `print`, to standard output.
-use ruleset::Transfer;
+use reader::Transfer;
 
 fn main() {
     let mut bytes = [0u8; 6856];

@@ -14,10 +14,10 @@ use Rattle.model.specs.Rules.{RuleSet, Rule}
 use Rattle.model.specs.Format.{Parsed, good, bad, andThen, many, byte, rule, ruleSet, content, bigEndian, bytesOf}
 use Rattle.model.specs.Form.{decoded, writing, done}
 use Rattle.laws.proofs.Bools.{case}
-use Rattle.format_laws.proofs.Bytes.{bytesOf-length}
-use Rattle.format_laws.proofs.RoundTrip.{decoded-fault, writing-good}
-use Rattle.format_laws.proofs.Format.{andThen-assoc}
-use Rattle.ruleset.specs.Step.{parsedRules}
+use Rattle.laws_format.proofs.Bytes.{bytesOf-length}
+use Rattle.laws_format.proofs.RoundTrip.{decoded-fault, writing-good}
+use Rattle.laws_format.proofs.Format.{andThen-assoc}
+use Rattle.reader.specs.Step.{parsedRules}
 use Rattle.writer.specs.Writes.{Agree, parsedContent, lengthened}
 
 -- the parse of all that follows the length, and the test that the bytes end there

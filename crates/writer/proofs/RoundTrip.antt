@@ -5,11 +5,11 @@ use mathlib.Core.List.{List, _++_}
 use Prim.Native.Nat.{ℕ, _≤_}
 use lib.ListN.{length, take, drop}
 use Rattle.model.specs.Form.{encoded, decoded, Reading, reading, Writing, writing}
-use Rattle.format_laws.proofs.Bytes.{Bytes}
-use Rattle.format_laws.proofs.RoundTrip.{written-read, read-written}
-use Rattle.ruleset.specs.Transfer.{transferOf}
-use Rattle.ruleset.specs.declared.Transfer.{Transfer}
-use Rattle.ruleset.specs.declared.Transfer.the-variants.{Done}
+use Rattle.laws_format.proofs.Bytes.{Bytes}
+use Rattle.laws_format.proofs.RoundTrip.{written-read, read-written}
+use Rattle.reader.specs.Transfer.{transferOf}
+use Rattle.reader.specs.declared.Transfer.{Transfer}
+use Rattle.reader.specs.declared.Transfer.the-variants.{Done}
 
 -- what a call of `read` and of `write` ensures
 abbrev pub Reads : List ℕ → List ℕ → Transfer → List ℕ → Type 0

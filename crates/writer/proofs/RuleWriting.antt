@@ -9,13 +9,13 @@ use Rattle.model.specs.Rules.{Atom, Rule}
 use Rattle.model.specs.Format.{Parsed, bad, andThen, many, byte, atoms, sound, rule, atomsBytes, ruleBytes}
 use Rattle.model.specs.Form.{spaced, groupAt, ruleAt}
 use Rattle.laws.proofs.Places.{length-spaced}
-use Rattle.ruleset.specs.Step.{value, none, atomsSet}
-use Rattle.ruleset.specs.Heads.{fault}
+use Rattle.reader.specs.Step.{value, none, atomsSet}
+use Rattle.reader.specs.Heads.{fault}
 use Rattle.writer.specs.Writes.{Agree, Written, Writes, Took}
-use Rattle.ruleset.specs.declared.Step.{Step}
-use Rattle.ruleset.specs.declared.Step.the-variants.{Good, Bad}
-use Rattle.ruleset.proofs.Parsing.{step-good, step-bad, andThen-good}
-use Rattle.ruleset.proofs.Heads.{of, sound-good, sound-bad}
+use Rattle.reader.specs.declared.Step.{Step}
+use Rattle.reader.specs.declared.Step.the-variants.{Good, Bad}
+use Rattle.reader.proofs.Parsing.{step-good, step-bad, andThen-good}
+use Rattle.reader.proofs.Heads.{of, sound-good, sound-bad}
 use Rattle.writer.proofs.Writing.{written-bad, written-good, writes-refused, writes-then, writes-as}
 
 -- the test of a rule after its disjuncts

@@ -7,13 +7,13 @@ use native.Mathlib.Decide.{decLt}
 use lib.ListN.{length, getD, drop, set}
 use lib.Seq.{getD-set-same, getD-set-other}
 use Rattle.model.specs.Format.{Parsed, good, bad, andThen, many, byte}
-use Rattle.format_laws.proofs.Parsers.{drop-past, drop-place}
-use Rattle.ruleset.specs.Step.{stepOf, value}
+use Rattle.laws_format.proofs.Parsers.{drop-past, drop-place}
+use Rattle.reader.specs.Step.{stepOf, value}
 use Rattle.writer.specs.Writes.{Agree, Written, Writes, Ends, Took, Small}
-use Rattle.ruleset.specs.declared.Step.{Step}
-use Rattle.ruleset.specs.declared.Step.the-variants.{Good, Bad}
-use Rattle.ruleset.proofs.Parsing.{step-good, step-bad, bad-is-not-good, byte-below, byte-above, byte-within, byte-good, andThen-good}
-use Rattle.ruleset.proofs.Many.{Progress, begun, more, ended, refused}
+use Rattle.reader.specs.declared.Step.{Step}
+use Rattle.reader.specs.declared.Step.the-variants.{Good, Bad}
+use Rattle.reader.proofs.Parsing.{step-good, step-bad, bad-is-not-good, byte-below, byte-above, byte-within, byte-good, andThen-good}
+use Rattle.reader.proofs.Many.{Progress, begun, more, ended, refused}
 
 -- a refusal and a value
 

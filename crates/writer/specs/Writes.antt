@@ -8,9 +8,9 @@ use Rattle.model.specs.Lists.{collect}
 use Rattle.model.specs.Rules.{Rule, RuleSet}
 use Rattle.model.specs.Format.{Parsed, good, andThen, many, byte, ruleBytes}
 use Rattle.model.specs.Form.{spaced, ruleAt}
-use Rattle.ruleset.specs.Step.{stepOf, parsedRules}
-use Rattle.ruleset.specs.declared.Step.{Step}
-use Rattle.ruleset.specs.declared.Step.the-variants.{Good}
+use Rattle.reader.specs.Step.{stepOf, parsedRules}
+use Rattle.reader.specs.declared.Step.{Step}
+use Rattle.reader.specs.declared.Step.the-variants.{Good}
 
 -- the same bytes behind the length and before i
 pub record Agree (bs : List ℕ) (i : ℕ) (out : List ℕ) : Type 0 where

@@ -1,8 +1,8 @@
 // The writer: the bytes of the rule set that a form holds, tested as the reader tests them, once over the form. Each function writes what a
 // parser of model's `Format` reads, and answers the parser's step (`Writes` of specs/Writes.antt).
-use ruleset::Step;
-use ruleset::Transfer;
-use ruleset::faults;
+use reader::Step;
+use reader::Transfer;
+use reader::faults;
 ghost use mathlib.Core.Path.{_≡_};
 ghost use mathlib.Core.List.{List, [], _∷_, _++_};
 ghost use Prim.Native.Nat.{_+_, _-_, _≤_, _<_};
@@ -12,10 +12,10 @@ ghost use Rattle.model.specs.Rules.{Atom};
 ghost use Rattle.model.specs.Format.{many, atomBytes, atomsBytes, ruleBytes, content};
 ghost use Rattle.model.specs.Format as format;
 ghost use Rattle.model.specs.Form.{spaced, atomAt, groupAt, ruleAt, decoded, writing};
-ghost use Rattle.rules.specs.Sets.{setOf};
-ghost use Rattle.ruleset.specs.Transfer.{transferOf};
-ghost use Rattle.ruleset.specs.Heads.{fault as faulty};
-ghost use Rattle.ruleset.specs.Step.{value, none, atomSet, atomsSet, Arities, parsedRules};
+ghost use Rattle.form.specs.Sets.{setOf};
+ghost use Rattle.reader.specs.Transfer.{transferOf};
+ghost use Rattle.reader.specs.Heads.{fault as faulty};
+ghost use Rattle.reader.specs.Step.{value, none, atomSet, atomsSet, Arities, parsedRules};
 ghost use Rattle.writer.specs.Writes.{Writes, Ends, Took, Small, parsedContent, rulesBytes, rulesAt, lengthened};
 
 // A place of the form; one that a short form lacks reads as 0.

@@ -5,9 +5,9 @@ use Prim.Native.Nat.{ℕ, _≤_}
 use native.Mathlib.Omega.{arith}
 use lib.ListN.{length, replicate, length-replicate}
 use Rattle.model.specs.Form.{formLength, done, Reading, reading}
-use Rattle.ruleset.specs.declared.Transfer.{Transfer}
-use Rattle.ruleset.specs.Transfer.{transferOf}
-use Rattle.table_laws.proofs.Courses.{Fronts, checked-short}
+use Rattle.reader.specs.declared.Transfer.{Transfer}
+use Rattle.reader.specs.Transfer.{transferOf}
+use Rattle.laws_tables.proofs.Courses.{Fronts, checked-short}
 use Rattle.dmfa.proofs.Checking.{checked-refused, form-held, checked-left}
 use borrow.Author.Needs.{needs}
 use Rattle.dmfa.proofs.check.Statement.{statement}

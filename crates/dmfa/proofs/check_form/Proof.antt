@@ -5,11 +5,11 @@ use Prim.Native.Nat.{ℕ, _≤_}
 use native.Mathlib.Omega.{arith}
 use lib.ListN.{length, drop, replicate}
 use Rattle.model.specs.Form.{decoded}
-use Rattle.rules.specs.Functions.{places, Numbered}
-use Rattle.rules.proofs.Places.{few-rules}
-use Rattle.rules.proofs.Numbering.{numbering-numbered}
-use Rattle.stage_rows.specs.Judging.{judged}
-use Rattle.dmfa_laws.proofs.Judging.{leftBy}
+use Rattle.form.specs.Functions.{places, Numbered}
+use Rattle.form.proofs.Places.{few-rules}
+use Rattle.form.proofs.Numbering.{numbering-numbered}
+use Rattle.rows.specs.Judging.{judged}
+use Rattle.laws_dmfa.proofs.Judging.{leftBy}
 use borrow.Author.Needs.{needs}
 use Rattle.dmfa.proofs.check_form.Statement.{statement}
 use Rattle.dmfa.proofs.check_form.Tie as tie

@@ -5,7 +5,7 @@ use Prim.Native.Nat.{ℕ, _+_, _-_, _*_, _≤_, _<_}
 use native.Mathlib.Omega.{arith}
 use lib.ListN.{length, getD, take, drop}
 use Rattle.model.specs.Text.{line, factWord, factNumbers}
-use Rattle.table_laws.proofs.Lines.{spaced}
+use Rattle.laws_tables.proofs.Lines.{spaced}
 use Rattle.report.specs.Writing.{Room}
 use Rattle.report.proofs.Writing.{writes-append}
 use Rattle.report.proofs.Lines.{line-parts, length-parts}

@@ -5,7 +5,7 @@ use Prim.Native.Nat.{suc, _+_, _<_}
 use native.Mathlib.Omega.{arith}
 use lib.ListN.{length, length-set}
 use Rattle.model.specs.Text.{decimal, line}
-use Rattle.table_laws.proofs.Lines.{spaced}
+use Rattle.laws_tables.proofs.Lines.{spaced}
 use Rattle.report.proofs.Writing.{writes-byte, writes-append}
 use Rattle.report.proofs.Lines.{line-header, length-header}
 use Rattle.report.proofs.write_header.Statement.{statement}

@@ -5,7 +5,7 @@ use Prim.Native.Nat.{_+_}
 use native.Mathlib.Omega.{arith}
 use lib.ListN.{length}
 use Rattle.model.specs.Text.{line, loopWord, termNumbers}
-use Rattle.table_laws.proofs.Lines.{spaced}
+use Rattle.laws_tables.proofs.Lines.{spaced}
 use Rattle.report.proofs.Writing.{writes-append}
 use Rattle.report.proofs.Lines.{line-parts, length-parts}
 use borrow.Author.Needs.{needs}

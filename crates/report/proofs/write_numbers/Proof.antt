@@ -8,7 +8,7 @@ use lib.ListN.{length, take}
 use lib.Seq.{take-all}
 use Rattle.model.specs.Lists.{collect}
 use Rattle.model.specs.Text.{decimal}
-use Rattle.table_laws.proofs.Lines.{spaced}
+use Rattle.laws_tables.proofs.Lines.{spaced}
 use Rattle.report.specs.Writing.{Writes}
 use Rattle.report.proofs.Writing.{writes-none, writes-append}
 use Rattle.report.proofs.Lines.{collect-more, collect-within}

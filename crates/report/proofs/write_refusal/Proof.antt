@@ -5,7 +5,7 @@ use Prim.Native.Nat.{_+_, _<_}
 use native.Mathlib.Omega.{arith}
 use lib.ListN.{length, length-append}
 use Rattle.model.specs.Text.{line, refusedWord}
-use Rattle.table_laws.proofs.Lines.{spaced}
+use Rattle.laws_tables.proofs.Lines.{spaced}
 use Rattle.report.proofs.Writing.{writes-byte, writes-append}
 use Rattle.report.proofs.Lines.{line-ended}
 use borrow.Author.Needs.{needs}

@@ -5,7 +5,7 @@ use Prim.Native.Nat.{ℕ, suc, _+_}
 use native.Mathlib.Omega.{arith}
 use lib.ListN.{length, length-append}
 use Rattle.model.specs.Text.{decimal}
-use Rattle.table_laws.proofs.Lines.{spaced}
+use Rattle.laws_tables.proofs.Lines.{spaced}
 use Rattle.report.proofs.Writing.{writes-append}
 use Rattle.report.proofs.Lines.{spaced-two, length-two}
 use borrow.Author.Needs.{needs}

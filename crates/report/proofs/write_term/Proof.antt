@@ -5,7 +5,7 @@ use Prim.Native.Nat.{ℕ, _+_, _-_, _*_, _≤_}
 use native.Mathlib.Omega.{arith}
 use lib.ListN.{getD, take, drop}
 use Rattle.model.specs.Text.{termNumbers}
-use Rattle.table_laws.proofs.Lines.{spaced}
+use Rattle.laws_tables.proofs.Lines.{spaced}
 use Rattle.report.specs.Writing.{Room, Writes}
 use Rattle.report.proofs.Rows.{termNumbers-part}
 use borrow.Author.Needs.{needs}

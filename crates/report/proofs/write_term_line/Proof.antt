@@ -5,7 +5,7 @@ use Prim.Native.Nat.{suc, _+_}
 use native.Mathlib.Omega.{arith}
 use lib.ListN.{length}
 use Rattle.model.specs.Text.{decimal, line, termWord, termNumbers}
-use Rattle.table_laws.proofs.Lines.{spaced}
+use Rattle.laws_tables.proofs.Lines.{spaced}
 use Rattle.report.proofs.Writing.{writes-append}
 use Rattle.report.proofs.Lines.{line-numbered, length-numbered}
 use borrow.Author.Needs.{needs}

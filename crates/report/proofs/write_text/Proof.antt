@@ -6,8 +6,8 @@ use Prim.Native.Nat.{ℕ, suc, _+_}
 use native.Mathlib.Omega.{arith}
 use lib.ListN.{length, length-append}
 use Rattle.model.specs.Text.{line, acceptedWord, cyclicWord, refusedWord, loopWord, termNumbers, records, text}
-use Rattle.verdict.specs.declared.Verdict.{Verdict}
-use Rattle.verdict.specs.Verdict.{meant}
+use Rattle.dmfa.specs.declared.verdict.Verdict.{Verdict}
+use Rattle.dmfa.specs.Verdict.{meant}
 use Rattle.report.specs.Legible.{LegibleTerms, LegibleFacts, Legible}
 use Rattle.report.proofs.Writing.{writes-append}
 use Rattle.report.proofs.Rows.{fewer-terms}

@@ -6,7 +6,7 @@ use Prim.Native.Nat.{ℕ, _+_, _-_, _≤_}
 use native.Mathlib.Omega.{arith}
 use lib.ListN.{length, getD, set, length-set}
 use lib.Seq.{paste, paste-zero}
-use Rattle.terms.proofs.Rows.{paste-more, paste-written}
+use Rattle.tables.proofs.Rows.{paste-more, paste-written}
 use Rattle.report.proofs.write_word.Statement.{statement}
 use Rattle.report.proofs.write_word.Tie as tie
 

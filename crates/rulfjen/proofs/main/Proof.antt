@@ -4,7 +4,7 @@ use Prim.Native.Nat.{_≤_}
 use native.Mathlib.Omega.{arith}
 use lib.ListN.{length}
 use lib.Seq.{length-take-le}
-use Rattle.ruleset.specs.Transfer.{transferOf}
+use Rattle.reader.specs.Transfer.{transferOf}
 use Rattle.report.proofs.Printing.{print-within}
 use borrow.Author.Needs.{needs}
 use Rattle.rulfjen.proofs.main.Statement.{statement}

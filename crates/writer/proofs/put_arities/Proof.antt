@@ -6,8 +6,8 @@ use borrow.Author.Needs.{needs}
 use lib.ListN.{length, getD}
 use Rattle.model.specs.Lists.{numbersFrom}
 use Rattle.model.specs.Format.{byte}
-use Rattle.ruleset.specs.Step.{value}
-use Rattle.ruleset.proofs.Many.{Anything}
+use Rattle.reader.specs.Step.{value}
+use Rattle.reader.proofs.Many.{Anything}
 use Rattle.writer.proofs.Spelling.{numbers-next, numbers-none, numbers-whole}
 use Rattle.writer.proofs.Places.{numbers-small, small-more}
 use Rattle.writer.proofs.Writing.{Writing, writing-begun, writing-more, writing-refused, writing-ended, ends-bad, ends-good, small-bad, small-good}

@@ -8,9 +8,9 @@ use Rattle.model.specs.Lists.{numbersFrom, collect}
 use Rattle.model.specs.Rules.{variablesOf}
 use Rattle.model.specs.Format.{atom, atomBytes}
 use Rattle.model.specs.Form.{spaced, atomAt}
-use Rattle.rules.specs.Sets.{setOf}
-use Rattle.ruleset.specs.Step.{atomSet, atomsSet}
-use Rattle.ruleset.proofs.Rows.{atomsSet-more}
+use Rattle.form.specs.Sets.{setOf}
+use Rattle.reader.specs.Step.{atomSet, atomsSet}
+use Rattle.reader.proofs.Rows.{atomsSet-more}
 use Rattle.writer.proofs.Spelling.{spaced-next, spaced-none, spaced-whole}
 use Rattle.writer.proofs.Writing.{Writing, writing-begun, writing-more, writing-refused, writing-ended, ends-bad, ends-good}
 use Rattle.writer.proofs.put_many_atoms.Statement.{statement}

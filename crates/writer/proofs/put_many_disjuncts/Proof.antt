@@ -7,8 +7,8 @@ use lib.ListN.{length}
 use Rattle.model.specs.Lists.{numbersFrom, collect}
 use Rattle.model.specs.Format.{atoms, atomsBytes}
 use Rattle.model.specs.Form.{spaced, groupAt}
-use Rattle.ruleset.specs.Step.{atomsSet}
-use Rattle.ruleset.proofs.Heads.{Keeps, seen-none, keeps-more, fault-is}
+use Rattle.reader.specs.Step.{atomsSet}
+use Rattle.reader.proofs.Heads.{Keeps, seen-none, keeps-more, fault-is}
 use Rattle.writer.proofs.Spelling.{spaced-next, spaced-none, spaced-whole}
 use Rattle.writer.proofs.Writing.{Writing, writing-begun, writing-more, writing-refused, writing-ended, ends-bad, ends-good}
 use Rattle.writer.proofs.put_many_disjuncts.Statement.{statement}

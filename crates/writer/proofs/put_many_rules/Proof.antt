@@ -7,8 +7,8 @@ use lib.ListN.{length}
 use Rattle.model.specs.Lists.{numbersFrom, collect}
 use Rattle.model.specs.Format.{rule, ruleBytes}
 use Rattle.model.specs.Form.{spaced, ruleAt}
-use Rattle.ruleset.specs.Step.{none}
-use Rattle.ruleset.proofs.Many.{Anything}
+use Rattle.reader.specs.Step.{none}
+use Rattle.reader.proofs.Many.{Anything}
 use Rattle.writer.proofs.Spelling.{spaced-next, spaced-none, spaced-whole}
 use Rattle.writer.proofs.Writing.{Writing, writing-begun, writing-more, writing-refused, writing-ended, ends-bad, ends-good}
 use Rattle.writer.proofs.put_many_rules.Statement.{statement}

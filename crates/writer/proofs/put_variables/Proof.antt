@@ -6,9 +6,9 @@ use borrow.Author.Needs.{needs}
 use lib.ListN.{length}
 use Rattle.model.specs.Lists.{numbersFrom}
 use Rattle.model.specs.Format.{variable}
-use Rattle.rules.specs.Sets.{setOf}
-use Rattle.ruleset.specs.Step.{value}
-use Rattle.rules.proofs.Sets.{setOf-more}
+use Rattle.form.specs.Sets.{setOf}
+use Rattle.reader.specs.Step.{value}
+use Rattle.form.proofs.Sets.{setOf-more}
 use Rattle.writer.proofs.Spelling.{numbers-next, numbers-none, numbers-whole}
 use Rattle.writer.proofs.Writing.{Writing, writing-begun, writing-more, writing-refused, writing-ended, ends-bad, ends-good}
 use Rattle.writer.proofs.put_variables.Statement.{statement}

@@ -7,11 +7,11 @@ use native.Mathlib.Omega.{arith}
 use lib.ListN.{length, take, drop}
 use Rattle.model.specs.Format.{good, ruleSet, bytesOf}
 use Rattle.model.specs.Form.{decoded}
-use Rattle.format_laws.proofs.Bytes.{bytesOf-length, drop-bytesOf}
-use Rattle.format_laws.proofs.RoundTrip.{writing-bad, writing-short}
-use Rattle.ruleset.specs.Step.{none}
+use Rattle.laws_format.proofs.Bytes.{bytesOf-length, drop-bytesOf}
+use Rattle.laws_format.proofs.RoundTrip.{writing-bad, writing-short}
+use Rattle.reader.specs.Step.{none}
 use Rattle.writer.specs.Writes.{Agree, Written, parsedContent, lengthened}
-use Rattle.ruleset.proofs.Parsing.{Parses, step-good, step-bad}
+use Rattle.reader.proofs.Parsing.{Parses, step-good, step-bad}
 use Rattle.writer.proofs.Bytes.{content-bad, content-end, front-length, write-whole}
 use borrow.Author.Needs.{needs}
 use Rattle.writer.proofs.write.Statement.{statement}

@@ -1,5 +1,5 @@
 -- `outputs::skolem::template` meets its contract. The loop's invariant: the row has the numbers of the variables passed. Assumes nothing.
-use Rattle.rules.specs.Sets.{elements}
+use Rattle.form.specs.Sets.{elements}
 use Rattle.outputs.specs.Skolem.{placed}
 use Rattle.outputs.proofs.Variables.{elements-length, filledUp-none, filledUp-more, filledUp-all}
 use mathlib.Core.Path.{_≡_, refl, sym, ap, _∙_}

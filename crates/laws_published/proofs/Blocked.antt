@@ -1,0 +1,70 @@
+-- Within the limit of 1,024 facts the test set is the published closure, and the computed blocking test the published notion. Assumes nothing.
+use mathlib.Core.Path.{_≡_, sym, _∙_}
+use mathlib.Core.Bool.{Bool, true, false}
+use mathlib.Core.Logic.{_↔_, ⊎-elim}
+use mathlib.Core.List.{List, List·Memᴰ}
+use Prim.Native.Nat.{ℕ, _≤_}
+use lib.ListN.{length}
+use Rattle.model.specs.Lists.{all, any}
+use Rattle.model.specs.Term.{Term}
+use Rattle.model.specs.Rules.{Rule, RuleSet, Disjunct, Entry, entries, universal, datalog}
+use Rattle.model.specs.Triggers.{Fact, present, assign, headFacts}
+use Rattle.model.specs.Blocking.{renamed, testBase, testSet, blocked}
+use Rattle.model.specs.Published.{Closed, Blocked}
+use Rattle.laws.proofs.Bools.{case, not-both}
+use Rattle.laws.proofs.Lists.{any-mem, mem-any, all-mem, mem-all}
+use Rattle.laws.proofs.Facts.{present-mem, mem-present}
+use Rattle.laws.proofs.Prefixes.{prefix-mem}
+use Rattle.laws_stages.proofs.Rounds.{testSet-begins, testSet-closes}
+use Rattle.laws_published.proofs.Closure.{saturate-sound, closed-within}
+
+-- the substitution of a trigger whose terms are renamed apart
+abbrev pub apartly : Rule → List Term → ℕ → Term
+apartly r m = assign (universal r) (renamed (universal r) m)
+
+-- some disjunct, renamed apart, is wholly in a set
+abbrev pub holdsDisjunct : List Fact → Entry → List Term → Bool
+holdsDisjunct fs e m = any (λ (d : Disjunct). all (present fs) (headFacts (apartly (e .rule) m) d)) (e .disjuncts)
+
+pub blocked-datalog : (es : List Entry) (e : Entry) (m : List Term) → datalog (e .rule) ≡ true → blocked es e m ≡ false
+unfolding blocked
+blocked-datalog es e m h = rw (h, blocked)
+
+pub blocked-other : (es : List Entry) (e : Entry) (m : List Term) → datalog (e .rule) ≡ false
+    → blocked es e m ≡ holdsDisjunct (testSet es (e .rule) m) e m
+unfolding blocked
+blocked-other es e m h = rw (h, blocked)
+
+pub blocked-not-datalog : (es : List Entry) (e : Entry) (m : List Term) → blocked es e m ≡ true → datalog (e .rule) ≡ false
+blocked-not-datalog es e m h =
+    ⊎-elim (λ (i : datalog (e .rule) ≡ true). not-both (blocked es e m) h (blocked-datalog es e m i)) (λ (i : datalog (e .rule) ≡ false). i) (case (datalog (e .rule)))
+
+module _ (b : RuleSet) where
+  pub test-set-sound : (r : Rule) (m : List Term) {f : Fact} → List·Memᴰ f (testSet (entries b) r m)
+      → Closed b (testBase (entries b) r (renamed (universal r) m)) f
+  unfolding testSet
+  test-set-sound r m k = saturate-sound b (testBase (entries b) r (renamed (universal r) m)) 1025 k
+
+  pub test-set-complete : (r : Rule) (m : List Term) {f : Fact} → length (testSet (entries b) r m) ≤ 1024
+      → Closed b (testBase (entries b) r (renamed (universal r) m)) f → List·Memᴰ f (testSet (entries b) r m)
+  test-set-complete r m h c =
+      closed-within b (testBase (entries b) r (renamed (universal r) m)) (testSet (entries b) r m) (testSet-closes (entries b) r m h)
+      (λ g i. prefix-mem (testSet-begins (entries b) r m) i) c
+
+  pub test-set-is-closure : (r : Rule) (m : List Term) (f : Fact) → length (testSet (entries b) r m) ≤ 1024
+      → List·Memᴰ f (testSet (entries b) r m) ↔ Closed b (testBase (entries b) r (renamed (universal r) m)) f
+  test-set-is-closure r m f h = (test-set-sound r m, test-set-complete r m h)
+
+  pub blocked-sound : (e : Entry) (m : List Term) → blocked (entries b) e m ≡ true → Blocked b e m
+  blocked-sound e m h =
+      let n = blocked-not-datalog (entries b) e m h in
+      let s = testSet (entries b) (e .rule) m in
+      let (d, k, a) = any-mem (λ (d : Disjunct). all (present s) (headFacts (apartly (e .rule) m) d)) (e .disjuncts) (sym (blocked-other (entries b) e m n) ∙ h) in
+      (n, d, k, λ f i. test-set-sound (e .rule) m (present-mem s f (all-mem (present s) a i)))
+
+  pub blocked-complete : (e : Entry) (m : List Term) → length (testSet (entries b) (e .rule) m) ≤ 1024 → Blocked b e m → blocked (entries b) e m ≡ true
+  blocked-complete e m h (n, d, k, c) =
+      let s = testSet (entries b) (e .rule) m in
+      blocked-other (entries b) e m n
+      ∙ mem-any (λ (d : Disjunct). all (present s) (headFacts (apartly (e .rule) m) d)) k
+      (mem-all (present s) (headFacts (apartly (e .rule) m) d) (λ f i. mem-present (test-set-complete (e .rule) m h (c f i))))

@@ -1,0 +1,201 @@
+-- The stages are within the published DMFA set as long as test sets stay within their limit, an accepted one is that set, and a cyclic term
+-- that is shown is reached. Assumes nothing.
+use mathlib.Core.Path.{_≡_, refl, sym, ap, _∙_, subst}
+use mathlib.Core.Bool.{true, false}
+use mathlib.Core.Logic.{_↔_, _⊎_, inl, inr, ⊎-elim}
+use mathlib.Core.List.{List, [], List·Memᴰ, List·Memᴰ·head, List·Memᴰ·eq-of-singleton}
+use Prim.Native.Nat.{ℕ, zero, suc, _≤_, _<_}
+use native.Mathlib.Omega.{arith}
+use native.Mathlib.Decide.{decLt}
+use Rattle.model.specs.Term.{Term, star, cyclic}
+use Rattle.model.specs.Rules.{RuleSet, Entry, entries, universal, blockable}
+use Rattle.model.specs.WellFormed.{WellFormed}
+use Rattle.model.specs.Triggers.{Fact, assign, instantiate}
+use Rattle.model.specs.Blocking.{blocked}
+use Rattle.model.specs.Stages.{Stage, triggersIn, stage, cyclicTerms, tooMany, accepted, looping, refused, verdict}
+use Rattle.model.specs.Published.{Substitution, Blocked, Dmfa, start, step}
+use Rattle.laws.proofs.Bools.{case, not-both, is-false}
+use Rattle.laws.proofs.Facts.{termsOf-mem}
+use Rattle.laws.proofs.Triggers.{Assignment, Loaded, triggers-mem}
+use Rattle.laws.proofs.Prefixes.{prefix-mem}
+use Rattle.laws_stages.proofs.Outputs.{Fires, outputs-mem, mem-outputs, cyclicTerms-mem, outputs-acyclic, test-sets-within}
+use Rattle.laws_stages.proofs.Growth.{stage-zero-facts, stage-zero-terms, outputsOf, facts-from, facts-grow, outputs-added, arguments-in-terms, Named, terms-are-named}
+use Rattle.laws_stages.proofs.Verdict.{Reached, Looping, Cause, large, many, facts, terms, accepted-says, looping-says, refused-says, reached-before, accepted-closed}
+use Rattle.laws_stages.proofs.Order.{Proper, proper-star, proper-skolem, terms-proper}
+use Rattle.laws_published.proofs.Closure.{loaded-trigger}
+use Rattle.laws_published.proofs.Blocked.{blocked-sound, blocked-complete}
+use Rattle.laws_published.proofs.Subterms.{Grounded, grounded-star, grounded-skolem}
+use Rattle.laws_published.proofs.Unblockable.{never-blocked, never-blocked-computed}
+
+-- terms of stages are grounded
+proper-grounded : {t : Term} → Proper t → Grounded t
+proper-grounded proper-star = grounded-star
+proper-grounded (proper-skolem f some few h) = grounded-skolem some (λ t m. proper-grounded (h t m))
+
+-- the triggers of a stage, as the two notions have them
+triggersIn-mem : (s : Stage) (e : Entry) {m : List Term} → List·Memᴰ m (triggersIn s e)
+    → Assignment (universal (e .rule)) (s .terms) m × Loaded (e .rule) (s .facts) (assign (universal (e .rule)) m)
+unfolding triggersIn
+triggersIn-mem s e k = triggers-mem (e .rule) (s .terms) (s .facts) k
+
+pub mem-triggersIn : (b : RuleSet) (n : ℕ) (e : Entry) (m : List Term) → Substitution (e .rule) m
+    → Loaded (e .rule) (stage b n .facts) (assign (universal (e .rule)) m) → List·Memᴰ m (triggersIn (stage b n) e)
+unfolding triggersIn
+mem-triggersIn b n e m t l =
+    loaded-trigger (e .rule) (stage b n .terms) (stage b n .facts) m t l
+    (λ u k. let (f, i, j) = termsOf-mem (stage b n .facts) k in arguments-in-terms b n i j)
+
+-- a stage that has all its outputs has the whole set: what the test blocks is blocked
+pub dmfa-within : (b : RuleSet) (n : ℕ) → ((g : Fact) → List·Memᴰ g (outputsOf b n) → List·Memᴰ g (stage b n .facts)) → {f : Fact} → Dmfa b f
+    → List·Memᴰ f (stage b n .facts)
+dmfa-within b n h (start {f} i) = prefix-mem (facts-grow b 0 n (omega arith)) (rw (stage-zero-facts b) i)
+dmfa-within b n h (step {f} e m i t l c o) =
+    h f
+    (mem-outputs (entries b) (stage b n)
+    (record {
+      entry = e;
+      terms = m;
+      known = i;
+      trigger = mem-triggersIn b n e m t (λ a k. dmfa-within b n h (l a k));
+      free = is-false (blocked (entries b) e m) (λ k. c (blocked-sound b e m k));
+      fact = o;
+    }))
+
+-- no stage holds a cyclic term before an output shows one
+
+stage-zero-star : (b : RuleSet) {t : Term} → List·Memᴰ t (stage b 0 .terms) → t ≡ star
+stage-zero-star b {t} k = List·Memᴰ·eq-of-singleton (rw (stage-zero-terms b) at k)
+
+cyclic-star : cyclic star ≡ false
+unfolding cyclic
+cyclic-star = refl
+
+pub stage-acyclic : (b : RuleSet) (n : ℕ) → ((j : ℕ) → j < n → cyclicTerms (entries b) (stage b j) ≡ []) → (f : Fact) → List·Memᴰ f (stage b n .facts)
+    → (t : Term) → List·Memᴰ t (f .arguments) → cyclic t ≡ false
+stage-acyclic b zero none f k t m = ap cyclic (stage-zero-star b (arguments-in-terms b 0 k m)) ∙ cyclic-star
+stage-acyclic b (suc n) none f k t m = go (λ i. stage-acyclic b n (λ j h. none j (omega arith)) f i t m) (facts-from b n k)
+  where
+    go : (List·Memᴰ f (stage b n .facts) → cyclic t ≡ false) → List·Memᴰ f (stage b n .facts) ⊎ List·Memᴰ f (outputsOf b n) → cyclic t ≡ false
+    go below (inl i) = below i
+    go below (inr i) = outputs-acyclic (entries b) (stage b n) (none n (omega arith)) i m
+
+pub reached-acyclic : (b : RuleSet) (n : ℕ) → Reached b n → (t : Term) → List·Memᴰ t (stage b n .terms) → cyclic t ≡ false
+reached-acyclic b n r t k =
+    ⊎-elim (λ (e : t ≡ star). ap cyclic e ∙ cyclic-star)
+    (λ (i : Named (stage b n .facts) t). stage-acyclic b n (λ j h. r .passed j h .acyclic) (i .fact) (i .known) t (i .argument)) (terms-are-named b n k)
+
+-- what `cyclic` claims of its stage and of the term shown
+pub record Witness (b : RuleSet) (n : ℕ) (u : Term) : Type 0 where
+  pub loops : cyclic u ≡ true
+  pub fact : Fact
+  pub known : List·Memᴰ fact (stage b n .facts)
+  pub argument : List·Memᴰ u (fact .arguments)
+  pub within : (g : Fact) → List·Memᴰ g (stage b n .facts) → Dmfa b g
+  pub first : (j : ℕ) → j < n → (v : Term) → List·Memᴰ v (stage b j .terms) → cyclic v ≡ false
+
+-- the rule set is DMFA: its set has no cyclic term (001, Definition 4)
+abbrev pub Acyclic : RuleSet → Type 0
+Acyclic b = (g : Fact) → Dmfa b g → (u : Term) → List·Memᴰ u (g .arguments) → cyclic u ≡ false
+
+module _ (b : RuleSet) (wf : WellFormed b) where
+  trigger-grounded : (n : ℕ) (e : Entry) (m : List Term) → List·Memᴰ m (triggersIn (stage b n) e) → (t : Term) → List·Memᴰ t m → Grounded t
+  trigger-grounded n e m k t i = proper-grounded (terms-proper b wf n (triggersIn-mem (stage b n) e k .0 .terms t i))
+
+  -- only blockable rules need the blocking test
+  pub unblockable-free : (n : ℕ) (e : Entry) (m : List Term) → List·Memᴰ e (entries b) → blockable (e .rule) ≡ false
+      → List·Memᴰ m (triggersIn (stage b n) e) → blocked (entries b) e m ≡ false
+  unblockable-free n e m i j k = never-blocked-computed wf i j m (triggersIn-mem (stage b n) e k .0 .total) (trigger-grounded n e m k)
+
+  -- on the triggers of a stage whose test sets are within their limit, the test decides the published notion
+  pub blocked-is-published : (n : ℕ) (e : Entry) (m : List Term) → tooMany (entries b) (stage b n) ≡ false → List·Memᴰ e (entries b)
+      → List·Memᴰ m (triggersIn (stage b n) e) → (blocked (entries b) e m ≡ true) ↔ Blocked b e m
+  blocked-is-published n e m few i k = (blocked-sound b e m, go (case (blockable (e .rule))))
+    where
+      go : (blockable (e .rule) ≡ true) ⊎ (blockable (e .rule) ≡ false) → Blocked b e m → blocked (entries b) e m ≡ true
+      go (inl j) h = blocked-complete b e m (test-sets-within (entries b) (stage b n) few i j k) h
+      go (inr j) h = absurd (never-blocked wf i j m (triggersIn-mem (stage b n) e k .0 .total) (trigger-grounded n e m k) h)
+
+  -- a stage is within the set if the test sets of all earlier ones are within their limit
+  pub stage-within-dmfa : (n : ℕ) → ((j : ℕ) → j < n → tooMany (entries b) (stage b j) ≡ false) → (f : Fact) → List·Memᴰ f (stage b n .facts) → Dmfa b f
+  stage-within-dmfa zero few f k = start (rw (stage-zero-facts b) at k)
+  stage-within-dmfa (suc n) few f k = go (λ g i. stage-within-dmfa n (λ j h. few j (omega arith)) g i) (facts-from b n k)
+    where
+      added : ((g : Fact) → List·Memᴰ g (stage b n .facts) → Dmfa b g) → Fires (entries b) (stage b n) f → Dmfa b f
+      added below o =
+          let r = o .entry .rule in
+          let (t, l) = triggersIn-mem (stage b n) (o .entry) (o .trigger) in
+          step (o .entry) (o .terms) (o .known) (t .total) (λ a i. below (instantiate (assign (universal r) (o .terms)) a) (l a i))
+          (λ h. not-both (blocked (entries b) (o .entry) (o .terms)) (blocked-is-published n (o .entry) (o .terms) (few n (omega arith)) (o .known) (o .trigger) .1 h) (o .free))
+          (o .fact)
+
+      go : ((g : Fact) → List·Memᴰ g (stage b n .facts) → Dmfa b g) → List·Memᴰ f (stage b n .facts) ⊎ List·Memᴰ f (outputsOf b n) → Dmfa b f
+      go below (inl i) = below f i
+      go below (inr i) = added below (outputs-mem (entries b) (stage b n) i)
+
+  pub reached-within-dmfa : (n : ℕ) → Reached b n → (f : Fact) → List·Memᴰ f (stage b n .facts) → Dmfa b f
+  reached-within-dmfa n r = stage-within-dmfa n (λ j h. r .passed j h .few)
+
+  -- and so is the stage after it, if its own test sets are within their limit too
+  pub next-within-dmfa : (n : ℕ) → Reached b n → tooMany (entries b) (stage b n) ≡ false → (f : Fact) → List·Memᴰ f (stage b (suc n) .facts) → Dmfa b f
+  next-within-dmfa n r few = stage-within-dmfa (suc n) each
+    where
+      each : (j : ℕ) → j < suc n → tooMany (entries b) (stage b j) ≡ false
+      each j h = go (decLt j n)
+        where
+          go : Dec (j < n) → tooMany (entries b) (stage b j) ≡ false
+          go (yes i) = r .passed j i .few
+          go (no i) = let e : j ≡ n = omega arith in rw e few
+
+  -- the list of an accepted rule set is the DMFA set
+  pub accepted-is-dmfa : {n f t : ℕ} → verdict b ≡ accepted n f t → (g : Fact) → List·Memᴰ g (stage b n .facts) ↔ Dmfa b g
+  accepted-is-dmfa {n} h g =
+      let a = accepted-says b wf h in
+      (reached-within-dmfa n (a .reached) g, dmfa-within b n (accepted-closed b wf a))
+
+  -- and has no cyclic term
+  pub accepted-is-acyclic : {n f t : ℕ} → verdict b ≡ accepted n f t → Acyclic b
+  accepted-is-acyclic {n} h g k u m = reached-acyclic b n (accepted-says b wf h .reached) u (arguments-in-terms b n (accepted-is-dmfa h g .1 k) m)
+
+  pub looping-witness : {n f t : ℕ} (l : Looping b n f t) → Witness b n (l .shown)
+  looping-witness {n} l =
+      let k = l .last in
+      let (c, (g, i, m)) = cyclicTerms-mem (entries b) (stage b k) {t = l .shown} (rw (l .found) (List·Memᴰ·head refl)) in
+      subst (λ (x : ℕ). Witness b x (l .shown)) (sym (l .next))
+      (record {
+        loops = c;
+        fact = g;
+        known = outputs-added b k i;
+        argument = m;
+        within = next-within-dmfa k (l .reached) (l .few);
+        first = λ j h v q. reached-acyclic b j (reached-before b k j (omega arith) (l .reached)) v q;
+      })
+
+  -- the term shown is a cyclic one of the DMFA set, and no earlier stage holds one
+  pub cyclic-is-reached : {n f t : ℕ} (h : verdict b ≡ looping n f t) → Witness b n (looping-says b wf h .shown)
+  cyclic-is-reached h = looping-witness (looping-says b wf h)
+
+  pub looping-is-cyclic : {n f t : ℕ} → verdict b ≡ looping n f t → Acyclic b → ⊥
+  looping-is-cyclic h a =
+      let u = looping-says b wf h .shown in
+      let w = cyclic-is-reached h in
+      not-both (cyclic u) (w .loops) (a (w .fact) (w .within (w .fact) (w .known)) u (w .argument))
+
+  -- the last stage made before a refusal is within the set
+  pub refused-within-dmfa : {n k : ℕ} → verdict b ≡ refused n (suc k) → (f : Fact) → List·Memᴰ f (stage b k .facts) → Dmfa b f
+  refused-within-dmfa {k = k} h =
+      let r = refused-says b wf h in
+      let e = r .next in
+      let i : k ≡ r .last = omega arith in
+      rw i (reached-within-dmfa (r .last) (r .reached))
+
+  cause-few : (k : ℕ) {n : ℕ} → Cause b k n → 13 ≤ n → tooMany (entries b) (stage b k) ≡ false
+  cause-few k (large i) h = absurd (omega arith)
+  cause-few k (many i j) h = absurd (omega arith)
+  cause-few k (facts i j c l) h = j
+  cause-few k (terms i j c l o) h = j
+
+  -- and so is the stage that is refused for its facts or terms
+  pub refused-stage-within-dmfa : {n p : ℕ} → verdict b ≡ refused n p → 13 ≤ n → (f : Fact) → List·Memᴰ f (stage b p .facts) → Dmfa b f
+  refused-stage-within-dmfa h i =
+      let r = refused-says b wf h in
+      rw (r .next) (next-within-dmfa (r .last) (r .reached) (cause-few (r .last) (r .cause) i))

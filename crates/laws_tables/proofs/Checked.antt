@@ -1,0 +1,160 @@
+-- The same of `checked`: what its tables spell out, that nothing beyond their fronts and no length changes, that 16-bit tables stay such, and how
+-- long its text is. Assumes nothing.
+use mathlib.Core.Path.{_≡_, refl, sym, ap, _∙_, subst}
+use mathlib.Core.List.{List, [], _∷_, List·Memᴰ, List·Memᴰ·not-nil}
+use Prim.Native.Nat.{ℕ, suc, _-_, _≤_}
+use native.Mathlib.Omega.{arith}
+use lib.ListN.{length, take, drop}
+use Rattle.model.specs.Term.{Term, star}
+use Rattle.model.specs.Rules.{RuleSet, entries}
+use Rattle.model.specs.WellFormed.{WellFormed}
+use Rattle.model.specs.Format.{good, read}
+use Rattle.model.specs.Stages.{stage, Verdict, accepted, looping, refused, verdict, cyclicTerms}
+use Rattle.model.specs.Tables.{Checked, checked, left, termsFront, factsFront}
+use Rattle.model.specs.Spelled.{termAt}
+use Rattle.laws_format.proofs.Bytes.{read-well-formed}
+use Rattle.laws_tables.proofs.Rows.{length-fronted, drop-fronted, fronted-within}
+use Rattle.laws_tables.proofs.Courses.{Fronts, Course, short, faulty, judged, course, checked-verdict, left-refused}
+use Rattle.laws_tables.proofs.Fronts.{terms-beyond, facts-beyond, terms-length, facts-length, terms-small, facts-small}
+use Rattle.laws_tables.proofs.Spelled.{Held, accepted-held, looping-held, Spells, accepted-spelled, cyclic-spelled, cyclic-shown}
+
+-- an answer that is no refusal is a verdict, and its tables are that verdict's
+pub record Judged (bytes terms₀ facts₀ : List ℕ) (b : RuleSet) (v : Verdict) : Type 0 where
+  pub fronts : Fronts terms₀ facts₀
+  pub verdict : verdict b ≡ v
+  pub tables : checked bytes terms₀ facts₀ ≡ left b v terms₀ facts₀
+
+answer-judged : (bytes terms₀ facts₀ : List ℕ) (b : RuleSet) (i : ℕ) (v : Verdict) → read bytes ≡ good b i → ((n p : ℕ) → refused n p ≡ v → ⊥)
+    → checked bytes terms₀ facts₀ .verdict ≡ v → Judged bytes terms₀ facts₀ b v
+answer-judged bytes terms₀ facts₀ b i v r n e = go (course bytes terms₀ facts₀)
+  where
+    go : Course bytes terms₀ facts₀ → Judged bytes terms₀ facts₀ b v
+    go (short k) = absurd (n 1 0 (sym (ap (λ (c : Checked). c .verdict) k) ∙ e))
+    go (faulty m p j l h q k) = absurd (n m p (sym (ap (λ (c : Checked). c .verdict) k) ∙ e))
+    go (judged b' i' h q k) =
+        let s : b' ≡ b = cc in
+        let t : verdict b ≡ v = sym (checked-verdict bytes terms₀ facts₀ b i h r) ∙ e in
+        record { fronts = h; verdict = t; tables = k ∙ ap (λ (x : RuleSet). left x (verdict x) terms₀ facts₀) s ∙ ap (λ (x : Verdict). left b x terms₀ facts₀) t }
+
+pub accepted-judged : (bytes terms₀ facts₀ : List ℕ) (b : RuleSet) (i n f t : ℕ) → read bytes ≡ good b i → checked bytes terms₀ facts₀ .verdict ≡ accepted n f t
+    → Judged bytes terms₀ facts₀ b (accepted n f t)
+accepted-judged bytes terms₀ facts₀ b i n f t r e =
+    answer-judged bytes terms₀ facts₀ b i (accepted n f t) r (λ m p q. let z : _≡_ {A = ℕ} 0 1 = cc in omega arith) e
+
+pub looping-judged : (bytes terms₀ facts₀ : List ℕ) (b : RuleSet) (i n f t : ℕ) → read bytes ≡ good b i → checked bytes terms₀ facts₀ .verdict ≡ looping n f t
+    → Judged bytes terms₀ facts₀ b (looping n f t)
+looping-judged bytes terms₀ facts₀ b i n f t r e =
+    answer-judged bytes terms₀ facts₀ b i (looping n f t) r (λ m p q. let z : _≡_ {A = ℕ} 0 1 = cc in omega arith) e
+
+-- what the tables spell out
+
+pub checked-accepted-spelled : (bytes terms₀ facts₀ : List ℕ) (b : RuleSet) (i n f t : ℕ) → read bytes ≡ good b i
+    → checked bytes terms₀ facts₀ .verdict ≡ accepted n f t → Spells (b .arities) (stage b n) f t (checked bytes terms₀ facts₀)
+checked-accepted-spelled bytes terms₀ facts₀ b i n f t r e =
+    let h = accepted-judged bytes terms₀ facts₀ b i n f t r e in
+    subst (λ (c : Checked). Spells (b .arities) (stage b n) f t c) (sym (h .tables)) (accepted-spelled b (read-well-formed bytes b i r) (h .verdict) terms₀ facts₀)
+
+pub checked-cyclic-spelled : (bytes terms₀ facts₀ : List ℕ) (b : RuleSet) (i n f t : ℕ) → read bytes ≡ good b i
+    → checked bytes terms₀ facts₀ .verdict ≡ looping n f t → Spells (b .arities) (stage b (n - 1)) f t (checked bytes terms₀ facts₀)
+checked-cyclic-spelled bytes terms₀ facts₀ b i n f t r e =
+    let h = looping-judged bytes terms₀ facts₀ b i n f t r e in
+    subst (λ (c : Checked). Spells (b .arities) (stage b (n - 1)) f t c) (sym (h .tables)) (cyclic-spelled b (read-well-formed bytes b i r) (h .verdict) terms₀ facts₀)
+
+pub checked-cyclic-shown : (bytes terms₀ facts₀ : List ℕ) (b : RuleSet) (i n f t : ℕ) → read bytes ≡ good b i → checked bytes terms₀ facts₀ .verdict ≡ looping n f t
+    → take 1 (cyclicTerms (entries b) (stage b (n - 1))) ≡ termAt (λ j. star) (suc t) (checked bytes terms₀ facts₀ .terms) t ∷ []
+checked-cyclic-shown bytes terms₀ facts₀ b i n f t r e =
+    let h = looping-judged bytes terms₀ facts₀ b i n f t r e in
+    subst (λ (c : Checked). take 1 (cyclicTerms (entries b) (stage b (n - 1))) ≡ termAt (λ j. star) (suc t) (c .terms) t ∷ []) (sym (h .tables))
+    (cyclic-shown b (read-well-formed bytes b i r) (h .verdict) terms₀ facts₀)
+
+-- what never changes
+
+pub record Kept (terms₀ facts₀ : List ℕ) (c : Checked) : Type 0 where
+  pub terms-beyond : drop termsFront (c .terms) ≡ drop termsFront terms₀
+  pub facts-beyond : drop factsFront (c .facts) ≡ drop factsFront facts₀
+  pub terms-length : length (c .terms) ≡ length terms₀
+  pub facts-length : length (c .facts) ≡ length facts₀
+
+-- no number above a bound
+pub record Bounded (w : ℕ) (ts fs : List ℕ) : Type 0 where
+  pub terms : (x : ℕ) → List·Memᴰ x ts → x ≤ w
+  pub facts : (x : ℕ) → List·Memᴰ x fs → x ≤ w
+
+module _ {b : RuleSet} {v : Verdict} {n f t : ℕ} {more : List Term} (h : Held b v n f t more) (terms₀ facts₀ : List ℕ) where
+  held-kept : Fronts terms₀ facts₀ → Kept terms₀ facts₀ (left b v terms₀ facts₀)
+  held-kept l =
+      subst (λ (c : Checked). Kept terms₀ facts₀ c) (sym (h .tables terms₀ facts₀))
+      (record {
+        terms-beyond = terms-beyond (h .records) (h .within) v terms₀ facts₀;
+        facts-beyond = facts-beyond (h .records) (h .within) v terms₀ facts₀;
+        terms-length = terms-length (h .records) (h .within) v terms₀ facts₀ (l .terms);
+        facts-length = facts-length (h .records) (h .within) v terms₀ facts₀ (l .facts);
+      })
+
+  held-bounded : (w : ℕ) → 2048 ≤ w → Bounded w terms₀ facts₀ → Bounded w (left b v terms₀ facts₀ .terms) (left b v terms₀ facts₀ .facts)
+  held-bounded w l k =
+      subst (λ (c : Checked). Bounded w (c .terms) (c .facts)) (sym (h .tables terms₀ facts₀))
+      (record {
+        terms = terms-small (h .records) (h .within) v terms₀ facts₀ w l (k .terms);
+        facts = facts-small (h .records) (h .within) v terms₀ facts₀ w l (k .facts);
+      })
+
+refused-kept : (b : RuleSet) (n p : ℕ) (terms₀ facts₀ : List ℕ) → Fronts terms₀ facts₀ → Kept terms₀ facts₀ (left b (refused n p) terms₀ facts₀)
+refused-kept b n p terms₀ facts₀ l =
+    subst (λ (c : Checked). Kept terms₀ facts₀ c) (sym (left-refused b n p terms₀ facts₀))
+    (record {
+      terms-beyond = drop-fronted termsFront [] terms₀ (omega arith);
+      facts-beyond = drop-fronted factsFront [] facts₀ (omega arith);
+      terms-length = length-fronted termsFront [] terms₀ (omega arith) (l .terms);
+      facts-length = length-fronted factsFront [] facts₀ (omega arith) (l .facts);
+    })
+
+refused-bounded : (b : RuleSet) (n p : ℕ) (terms₀ facts₀ : List ℕ) (w : ℕ) → Bounded w terms₀ facts₀
+    → Bounded w (left b (refused n p) terms₀ facts₀ .terms) (left b (refused n p) terms₀ facts₀ .facts)
+refused-bounded b n p terms₀ facts₀ w k =
+    subst (λ (c : Checked). Bounded w (c .terms) (c .facts)) (sym (left-refused b n p terms₀ facts₀))
+    (record {
+      terms = fronted-within w termsFront [] terms₀ (λ x m. absurd (List·Memᴰ·not-nil m)) (k .terms);
+      facts = fronted-within w factsFront [] facts₀ (λ x m. absurd (List·Memᴰ·not-nil m)) (k .facts);
+    })
+
+module _ (b : RuleSet) (w : WellFormed b) (terms₀ facts₀ : List ℕ) where
+  pub left-kept : Fronts terms₀ facts₀ → (v : Verdict) → verdict b ≡ v → Kept terms₀ facts₀ (left b v terms₀ facts₀)
+  left-kept l (accepted n f t) e = held-kept (accepted-held b w e) terms₀ facts₀ l
+  left-kept l (looping n f t) e = held-kept (looping-held b w e) terms₀ facts₀ l
+  left-kept l (refused n p) e = refused-kept b n p terms₀ facts₀ l
+
+  pub left-bounded : (c : ℕ) → 2048 ≤ c → Bounded c terms₀ facts₀ → (v : Verdict) → verdict b ≡ v
+      → Bounded c (left b v terms₀ facts₀ .terms) (left b v terms₀ facts₀ .facts)
+  left-bounded c l k (accepted n f t) e = held-bounded (accepted-held b w e) terms₀ facts₀ c l k
+  left-bounded c l k (looping n f t) e = held-bounded (looping-held b w e) terms₀ facts₀ c l k
+  left-bounded c l k (refused n p) e = refused-bounded b n p terms₀ facts₀ c k
+
+-- for every input: beyond the fronts nothing changes, and no length
+pub checked-kept : (bytes terms₀ facts₀ : List ℕ) → Kept terms₀ facts₀ (checked bytes terms₀ facts₀)
+checked-kept bytes terms₀ facts₀ = go (course bytes terms₀ facts₀)
+  where
+    same : {v : Verdict} → checked bytes terms₀ facts₀ ≡ record { verdict = v; terms = terms₀; facts = facts₀ } → Kept terms₀ facts₀ (checked bytes terms₀ facts₀)
+    same e =
+        subst (λ (c : Checked). Kept terms₀ facts₀ c) (sym e)
+        (record { terms-beyond = refl; facts-beyond = refl; terms-length = refl; facts-length = refl })
+
+    go : Course bytes terms₀ facts₀ → Kept terms₀ facts₀ (checked bytes terms₀ facts₀)
+    go (short e) = same e
+    go (faulty n p i j h r e) = same e
+    go (judged b i h r e) = subst (λ (c : Checked). Kept terms₀ facts₀ c) (sym e) (left-kept b (read-well-formed bytes b i r) terms₀ facts₀ h (verdict b) refl)
+
+-- tables without a number above 65,535, or any bound from 2,048 on, are left so
+pub checked-bounded : (bytes terms₀ facts₀ : List ℕ) (w : ℕ) → 2048 ≤ w → Bounded w terms₀ facts₀
+    → Bounded w (checked bytes terms₀ facts₀ .terms) (checked bytes terms₀ facts₀ .facts)
+checked-bounded bytes terms₀ facts₀ w l k = go (course bytes terms₀ facts₀)
+  where
+    same : {v : Verdict} → checked bytes terms₀ facts₀ ≡ record { verdict = v; terms = terms₀; facts = facts₀ }
+        → Bounded w (checked bytes terms₀ facts₀ .terms) (checked bytes terms₀ facts₀ .facts)
+    same e = subst (λ (c : Checked). Bounded w (c .terms) (c .facts)) (sym e) k
+
+    go : Course bytes terms₀ facts₀ → Bounded w (checked bytes terms₀ facts₀ .terms) (checked bytes terms₀ facts₀ .facts)
+    go (short e) = same e
+    go (faulty n p i j h r e) = same e
+    go (judged b i h r e) =
+        subst (λ (c : Checked). Bounded w (c .terms) (c .facts)) (sym e) (left-bounded b (read-well-formed bytes b i r) terms₀ facts₀ w l k (verdict b) refl)

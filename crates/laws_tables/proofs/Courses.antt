@@ -1,0 +1,158 @@
+-- The courses that `checked` can take, and what each refusal leaves in the tables: 1 to 10 all as it was, 11 to 14 zeros in both fronts.
+-- Assumes nothing.
+use mathlib.Core.Path.{_≡_, refl, sym, ap, ap₂, _∙_, subst}
+use mathlib.Core.Bool.{Bool, true, false, _&&_}
+use mathlib.Core.Logic.{_⊎_, inl, inr}
+use mathlib.Core.List.{List, []}
+use Prim.Native.Nat.{ℕ, _≤_, _<_}
+use native.Mathlib.Nat.{sub-zero}
+use native.Mathlib.Omega.{arith}
+use lib.Dec.{leb}
+use lib.ListN.{length, take, replicate}
+use borrow.Author.Tests.{leb-true, le-leb}
+use Rattle.model.specs.Lists.{padded}
+use Rattle.model.specs.Rules.{RuleSet}
+use Rattle.model.specs.Format.{Parsed, good, bad, read}
+use Rattle.model.specs.Stages.{Verdict, accepted, looping, refused, verdict}
+use Rattle.model.specs.Tables.{Checked, checked, left, recorded, fronted, termsFront, factsFront}
+use Rattle.laws.proofs.Bools.{case, and-true, true-and, is-false}
+use Rattle.laws_tables.proofs.Rows.{take-fronted}
+use Rattle.laws_tables.proofs.Refusals.{Faulty, read-faulty, Excessive, verdict-excessive}
+
+-- both fronts are there
+abbrev longEnough : List ℕ → List ℕ → Bool
+longEnough terms₀ facts₀ = leb termsFront (length terms₀) && leb factsFront (length facts₀)
+
+abbrev answer : List ℕ → List ℕ → Bool → Parsed RuleSet → Checked
+answer terms₀ facts₀ false r = record { verdict = refused 1 0; terms = terms₀; facts = facts₀ }
+answer terms₀ facts₀ true (bad n p) = record { verdict = refused n p; terms = terms₀; facts = facts₀ }
+answer terms₀ facts₀ true (good b i) = left b (verdict b) terms₀ facts₀
+
+checked-answer : (bytes terms₀ facts₀ : List ℕ) → checked bytes terms₀ facts₀ ≡ answer terms₀ facts₀ (longEnough terms₀ facts₀) (read bytes)
+unfolding checked
+checked-answer bytes terms₀ facts₀ = go (longEnough terms₀ facts₀) (read bytes)
+  where
+    go : (b : Bool) (r : Parsed RuleSet) → _≡_ {A = Checked}
+        (elim b [
+          | false ↦ record { verdict = refused 1 0; terms = terms₀; facts = facts₀ }
+          | true ↦
+              elim r [
+                | bad n p ↦ record { verdict = refused n p; terms = terms₀; facts = facts₀ }
+                | good b i ↦ left b (verdict b) terms₀ facts₀
+              ]
+        ]) (answer terms₀ facts₀ b r)
+    go false r = refl
+    go true (bad n p) = refl
+    go true (good b i) = refl
+
+-- tables that are long enough
+pub record Fronts (terms₀ facts₀ : List ℕ) : Type 0 where
+  pub terms : termsFront ≤ length terms₀
+  pub facts : factsFront ≤ length facts₀
+
+long : {terms₀ facts₀ : List ℕ} → Fronts terms₀ facts₀ → longEnough terms₀ facts₀ ≡ true
+long {terms₀} {facts₀} h =
+    true-and (leb termsFront (length terms₀)) (leb factsFront (length facts₀)) (le-leb termsFront (length terms₀) (h .terms))
+    (le-leb factsFront (length facts₀) (h .facts))
+
+-- refusal 1: a list shorter than its front
+pub checked-short : (bytes terms₀ facts₀ : List ℕ) → (length terms₀ < termsFront) ⊎ (length facts₀ < factsFront)
+    → checked bytes terms₀ facts₀ ≡ record { verdict = refused 1 0; terms = terms₀; facts = facts₀ }
+checked-short bytes terms₀ facts₀ h = checked-answer bytes terms₀ facts₀ ∙ ap (λ (t : Bool). answer terms₀ facts₀ t (read bytes)) (is-false (longEnough terms₀ facts₀) (lacking h))
+  where
+    lacking : (length terms₀ < termsFront) ⊎ (length facts₀ < factsFront) → longEnough terms₀ facts₀ ≡ true → ⊥
+    lacking (inl l) e = let k = leb-true termsFront (length terms₀) (and-true (leb termsFront (length terms₀)) (leb factsFront (length facts₀)) e .0) in omega arith
+    lacking (inr l) e = let k = leb-true factsFront (length facts₀) (and-true (leb termsFront (length terms₀)) (leb factsFront (length facts₀)) e .1) in omega arith
+
+pub checked-bad : (bytes terms₀ facts₀ : List ℕ) (n p : ℕ) → Fronts terms₀ facts₀ → read bytes ≡ bad n p
+    → checked bytes terms₀ facts₀ ≡ record { verdict = refused n p; terms = terms₀; facts = facts₀ }
+checked-bad bytes terms₀ facts₀ n p h e = checked-answer bytes terms₀ facts₀ ∙ ap₂ (answer terms₀ facts₀) (long h) e
+
+pub checked-good : (bytes terms₀ facts₀ : List ℕ) (b : RuleSet) (i : ℕ) → Fronts terms₀ facts₀ → read bytes ≡ good b i
+    → checked bytes terms₀ facts₀ ≡ left b (verdict b) terms₀ facts₀
+checked-good bytes terms₀ facts₀ b i h e = checked-answer bytes terms₀ facts₀ ∙ ap₂ (answer terms₀ facts₀) (long h) e
+
+-- document 01's order: refusal 1, a fault of the bytes, the verdict
+pub data Course (bytes terms₀ facts₀ : List ℕ) : Type 0 where
+  short : checked bytes terms₀ facts₀ ≡ record { verdict = refused 1 0; terms = terms₀; facts = facts₀ } → Course bytes terms₀ facts₀
+  faulty : (n p : ℕ) → 2 ≤ n → n ≤ 10 → Fronts terms₀ facts₀ → read bytes ≡ bad n p
+      → checked bytes terms₀ facts₀ ≡ record { verdict = refused n p; terms = terms₀; facts = facts₀ } → Course bytes terms₀ facts₀
+  judged : (b : RuleSet) (i : ℕ) → Fronts terms₀ facts₀ → read bytes ≡ good b i → checked bytes terms₀ facts₀ ≡ left b (verdict b) terms₀ facts₀
+      → Course bytes terms₀ facts₀
+
+pub course : (bytes terms₀ facts₀ : List ℕ) → Course bytes terms₀ facts₀
+course bytes terms₀ facts₀ = go (case (longEnough terms₀ facts₀))
+  where
+    fronts : longEnough terms₀ facts₀ ≡ true → Fronts terms₀ facts₀
+    fronts e =
+        let (i, j) = and-true (leb termsFront (length terms₀)) (leb factsFront (length facts₀)) e in
+        record { terms = leb-true termsFront (length terms₀) i; facts = leb-true factsFront (length facts₀) j }
+
+    parsed : Fronts terms₀ facts₀ → (r : Parsed RuleSet) → read bytes ≡ r → Faulty r → Course bytes terms₀ facts₀
+    parsed h (bad n p) e k = faulty n p (k .0) (k .1) h e (checked-bad bytes terms₀ facts₀ n p h e)
+    parsed h (good b i) e k = judged b i h e (checked-good bytes terms₀ facts₀ b i h e)
+
+    go : (longEnough terms₀ facts₀ ≡ true) ⊎ (longEnough terms₀ facts₀ ≡ false) → Course bytes terms₀ facts₀
+    go (inl e) = parsed (fronts e) (read bytes) refl (read-faulty bytes)
+    go (inr e) = short (checked-answer bytes terms₀ facts₀ ∙ ap (λ (t : Bool). answer terms₀ facts₀ t (read bytes)) e)
+
+pub left-verdict : (b : RuleSet) (v : Verdict) (terms₀ facts₀ : List ℕ) → left b v terms₀ facts₀ .verdict ≡ v
+unfolding left recorded
+left-verdict b (accepted n f t) terms₀ facts₀ = refl
+left-verdict b (looping n f t) terms₀ facts₀ = refl
+left-verdict b (refused n p) terms₀ facts₀ = refl
+
+-- the verdict of a rule set that was read is the answer
+pub checked-verdict : (bytes terms₀ facts₀ : List ℕ) (b : RuleSet) (i : ℕ) → Fronts terms₀ facts₀ → read bytes ≡ good b i
+    → checked bytes terms₀ facts₀ .verdict ≡ verdict b
+checked-verdict bytes terms₀ facts₀ b i h e = ap (λ (c : Checked). c .verdict) (checked-good bytes terms₀ facts₀ b i h e) ∙ left-verdict b (verdict b) terms₀ facts₀
+
+-- refusals 1 to 10 change nothing
+
+pub record Untouched (bytes terms₀ facts₀ : List ℕ) : Type 0 where
+  pub terms : checked bytes terms₀ facts₀ .terms ≡ terms₀
+  pub facts : checked bytes terms₀ facts₀ .facts ≡ facts₀
+
+untouched : {bytes terms₀ facts₀ : List ℕ} {v : Verdict} → checked bytes terms₀ facts₀ ≡ record { verdict = v; terms = terms₀; facts = facts₀ } → Untouched bytes terms₀ facts₀
+untouched e = record { terms = ap (λ (c : Checked). c .terms) e; facts = ap (λ (c : Checked). c .facts) e }
+
+refused-number : {n p m q : ℕ} → refused n p ≡ refused m q → n ≡ m
+refused-number e = cc
+
+pub refused-untouched : (bytes terms₀ facts₀ : List ℕ) (n p : ℕ) → checked bytes terms₀ facts₀ .verdict ≡ refused n p → n ≤ 10 → Untouched bytes terms₀ facts₀
+refused-untouched bytes terms₀ facts₀ n p v l = go (course bytes terms₀ facts₀)
+  where
+    go : Course bytes terms₀ facts₀ → Untouched bytes terms₀ facts₀
+    go (short e) = untouched e
+    go (faulty m q j k h r e) = untouched e
+    go (judged b i h r e) =
+        let x : Excessive (refused n p) = subst Excessive (sym (checked-verdict bytes terms₀ facts₀ b i h r) ∙ v) (verdict-excessive b) in
+        absurd (omega arith)
+
+-- refusals 11 to 14 leave zeros in both fronts
+
+pub record Zeroed (bytes terms₀ facts₀ : List ℕ) : Type 0 where
+  pub terms : checked bytes terms₀ facts₀ .terms ≡ fronted termsFront [] terms₀
+  pub facts : checked bytes terms₀ facts₀ .facts ≡ fronted factsFront [] facts₀
+
+pub left-refused : (b : RuleSet) (n p : ℕ) (terms₀ facts₀ : List ℕ)
+    → left b (refused n p) terms₀ facts₀ ≡ record { verdict = refused n p; terms = fronted termsFront [] terms₀; facts = fronted factsFront [] facts₀ }
+unfolding left
+left-refused b n p terms₀ facts₀ = refl
+
+pub refused-zeroed : (bytes terms₀ facts₀ : List ℕ) (n p : ℕ) → checked bytes terms₀ facts₀ .verdict ≡ refused n p → 11 ≤ n → Zeroed bytes terms₀ facts₀
+refused-zeroed bytes terms₀ facts₀ n p v l = go (course bytes terms₀ facts₀)
+  where
+    go : Course bytes terms₀ facts₀ → Zeroed bytes terms₀ facts₀
+    go (short e) = let k : n ≡ 1 = refused-number (sym v ∙ ap (λ (c : Checked). c .verdict) e) in absurd (omega arith)
+    go (faulty m q j k h r e) = let i : n ≡ m = refused-number (sym v ∙ ap (λ (c : Checked). c .verdict) e) in absurd (omega arith)
+    go (judged b i h r e) =
+        let w : checked bytes terms₀ facts₀ ≡ record { verdict = refused n p; terms = fronted termsFront [] terms₀; facts = fronted factsFront [] facts₀ } =
+        e ∙ ap (λ (x : Verdict). left b x terms₀ facts₀) (sym (checked-verdict bytes terms₀ facts₀ b i h r) ∙ v) ∙ left-refused b n p terms₀ facts₀
+        in
+        record { terms = ap (λ (c : Checked). c .terms) w; facts = ap (λ (c : Checked). c .facts) w }
+
+-- what a front of no records is
+pub take-zeroed : (n : ℕ) (table : List ℕ) → take n (fronted n [] table) ≡ replicate n 0
+unfolding padded
+take-zeroed n table = take-fronted n [] table (omega arith) ∙ ap (λ (k : ℕ). replicate k 0) (sub-zero n)

@@ -1,0 +1,120 @@
+-- The tables of an accepted or cyclic answer spell out exactly the stage that the answer names, and after a cyclic answer's terms comes the first
+-- cyclic term of the next stage. Assumes nothing.
+use mathlib.Core.Path.{_≡_, refl, sym, ap, _∙_, subst}
+use mathlib.Core.List.{List, [], _∷_, List·Memᴰ, List·Memᴰ·head, List·Memᴰ·not-nil, List·Memᴰ·eq-of-singleton}
+use Prim.Native.Nat.{ℕ, suc, _-_}
+use native.Mathlib.Omega.{arith}
+use lib.ListN.{length, take, length-append}
+use lib.Seq.{getD-append-seam}
+use Rattle.model.specs.Term.{Term, star}
+use Rattle.model.specs.Rules.{RuleSet, entries}
+use Rattle.model.specs.WellFormed.{WellFormed}
+use Rattle.model.specs.Stages.{Stage, stage, Verdict, accepted, looping, verdict, cyclicTerms}
+use Rattle.model.specs.Tables.{Checked, left, recorded}
+use Rattle.model.specs.Spelled.{termAt, spelledTerms, spelledFacts}
+use Rattle.laws_stages.proofs.Outputs.{cyclicTerms-mem}
+use Rattle.laws_stages.proofs.Order.{outputs-terms}
+use Rattle.laws_stages.proofs.Verdict.{Looping, accepted-says, looping-says}
+use Rattle.laws_tables.proofs.Recorded.{Recorded, terms-spelled, facts-spelled, term-spelled}
+use Rattle.laws_tables.proofs.Fronts.{Within}
+use Rattle.laws_tables.proofs.Stages.{Next, stage-recorded, stage-within}
+
+-- an answer whose tables hold stage n, with f facts and t terms, and more terms after them
+pub record Held (b : RuleSet) (v : Verdict) (n f t : ℕ) (more : List Term) : Type 0 where
+  pub records : Recorded (b .arities) (stage b n) more
+  pub within : Within (stage b n) more
+  pub facts : f ≡ length (stage b n .facts)
+  pub terms : t ≡ length (stage b n .terms)
+  pub tables : (terms₀ facts₀ : List ℕ) → left b v terms₀ facts₀ ≡ recorded v (stage b n) more terms₀ facts₀
+
+pub accepted-held : (b : RuleSet) → WellFormed b → {n f t : ℕ} → verdict b ≡ accepted n f t → Held b (accepted n f t) n f t []
+unfolding left
+accepted-held b w {n} {f} {t} e =
+    let h = accepted-says b w e in
+    record {
+      records = stage-recorded b w n [] (λ u m. absurd (List·Memᴰ·not-nil m));
+      within = stage-within b w n [] (λ u m. absurd (List·Memᴰ·not-nil m)) (h .reached) (omega arith);
+      facts = h .facts;
+      terms = h .terms;
+      tables = λ terms₀ facts₀. refl;
+    }
+
+-- the cyclic term that is shown is a term of the next stage
+shown-next : (b : RuleSet) → WellFormed b → (n : ℕ) (t : Term) (ts : List Term) → cyclicTerms (entries b) (stage b n) ≡ t ∷ ts
+    → (u : Term) → List·Memᴰ u (t ∷ []) → Next (entries b) (stage b n .terms) u
+shown-next b w n t ts e u m =
+    let (c, q) = cyclicTerms-mem (entries b) (stage b n) (subst (λ (xs : List Term). List·Memᴰ t xs) (sym e) (List·Memᴰ·head refl)) in
+    let (f, k, i) = q in
+    subst (λ (x : Term). Next (entries b) (stage b n .terms) x) (sym (List·Memᴰ·eq-of-singleton m)) (outputs-terms b w n k i)
+
+left-looping : (b : RuleSet) (n k f t : ℕ) (u : Term) (us : List Term) → n - 1 ≡ k → cyclicTerms (entries b) (stage b k) ≡ u ∷ us → (terms₀ facts₀ : List ℕ)
+    → left b (looping n f t) terms₀ facts₀ ≡ recorded (looping n f t) (stage b k) (u ∷ []) terms₀ facts₀
+unfolding left
+left-looping b n k f t u us e q terms₀ facts₀ =
+    ap (λ (j : ℕ). recorded (looping n f t) (stage b j) (take 1 (cyclicTerms (entries b) (stage b j))) terms₀ facts₀) e
+    ∙ ap (λ (xs : List Term). recorded (looping n f t) (stage b k) (take 1 xs) terms₀ facts₀) q
+
+pub looping-held : (b : RuleSet) (w : WellFormed b) {n f t : ℕ} (e : verdict b ≡ looping n f t)
+    → Held b (looping n f t) (n - 1) f t (looping-says b w e .shown ∷ [])
+looping-held b w {n} {f} {t} e = go (looping-says b w e)
+  where
+    go : (h : Looping b n f t) → Held b (looping n f t) (n - 1) f t (h .shown ∷ [])
+    go h =
+        let q = h .next in
+        let p : n - 1 ≡ h .last = omega arith in
+        let next = shown-next b w (h .last) (h .shown) (h .others) (h .found) in
+        subst (λ (k : ℕ). Held b (looping n f t) k f t (h .shown ∷ [])) (sym p)
+        (record {
+          records = stage-recorded b w (h .last) (h .shown ∷ []) next;
+          within = stage-within b w (h .last) (h .shown ∷ []) next (h .reached) (omega arith);
+          facts = h .facts;
+          terms = h .terms;
+          tables = left-looping b n (h .last) f t (h .shown) (h .others) p (h .found);
+        })
+
+-- the tables spell out a stage
+pub record Spells (arities : List ℕ) (s : Stage) (f t : ℕ) (c : Checked) : Type 0 where
+  pub terms : spelledTerms (λ j. star) t t (c .terms) 0 ≡ s .terms
+  pub facts : spelledFacts arities (λ j. star) t f (c .terms) (c .facts) 0 ≡ s .facts
+
+module _ {b : RuleSet} {v : Verdict} {n f t : ℕ} {more : List Term} (h : Held b v n f t more) (terms₀ facts₀ : List ℕ) where
+  pub held-spelled : Spells (b .arities) (stage b n) f t (left b v terms₀ facts₀)
+  held-spelled =
+      rw (h .tables terms₀ facts₀, h .facts, h .terms)
+      (record {
+        terms = terms-spelled (h .records) v terms₀ facts₀ (length (stage b n .terms)) (omega arith);
+        facts = facts-spelled (h .records) v terms₀ facts₀ (length (stage b n .terms)) (omega arith);
+      })
+
+-- the record after the stage's own
+pub held-shown : {b : RuleSet} {v : Verdict} {n f t : ℕ} {u : Term} → Held b v n f t (u ∷ []) → (terms₀ facts₀ : List ℕ)
+    → termAt (λ j. star) (suc t) (left b v terms₀ facts₀ .terms) t ≡ u
+held-shown {b} {v} {n} {f} {t} {u} h terms₀ facts₀ =
+    rw (h .tables terms₀ facts₀, h .terms)
+    (term-spelled (h .records) v terms₀ facts₀ (suc (length (stage b n .terms))) (length (stage b n .terms)) (omega arith)
+    (rw (length-append (stage b n .terms) (u ∷ [])) (omega arith))
+    ∙ getD-append-seam (stage b n .terms) u [] star)
+
+-- the theorems
+
+pub accepted-spelled : (b : RuleSet) → WellFormed b → {n f t : ℕ} → verdict b ≡ accepted n f t → (terms₀ facts₀ : List ℕ)
+    → Spells (b .arities) (stage b n) f t (left b (accepted n f t) terms₀ facts₀)
+accepted-spelled b w e terms₀ facts₀ = held-spelled (accepted-held b w e) terms₀ facts₀
+
+pub cyclic-spelled : (b : RuleSet) → WellFormed b → {n f t : ℕ} → verdict b ≡ looping n f t → (terms₀ facts₀ : List ℕ)
+    → Spells (b .arities) (stage b (n - 1)) f t (left b (looping n f t) terms₀ facts₀)
+cyclic-spelled b w e terms₀ facts₀ = held-spelled (looping-held b w e) terms₀ facts₀
+
+-- the record after the stage's own is the first cyclic term of the next stage
+pub cyclic-shown : (b : RuleSet) → WellFormed b → {n f t : ℕ} → verdict b ≡ looping n f t → (terms₀ facts₀ : List ℕ)
+    → take 1 (cyclicTerms (entries b) (stage b (n - 1))) ≡ termAt (λ j. star) (suc t) (left b (looping n f t) terms₀ facts₀ .terms) t ∷ []
+cyclic-shown b w {n} {f} {t} e terms₀ facts₀ = ap (take 1) found ∙ ap (λ (u : Term). u ∷ []) (sym shown)
+  where
+    l : Looping b n f t
+    l = looping-says b w e
+
+    found : cyclicTerms (entries b) (stage b (n - 1)) ≡ l .shown ∷ l .others
+    found = let q = l .next in let p : n - 1 ≡ l .last = omega arith in rw p (l .found)
+
+    shown : termAt (λ j. star) (suc t) (left b (looping n f t) terms₀ facts₀ .terms) t ≡ l .shown
+    shown = held-shown (looping-held b w e) terms₀ facts₀

@@ -1,8 +1,0 @@
-pub mod Bodies
-pub mod Cyclic
-pub mod Disjuncts
-pub mod Entering
-pub mod Flat
-pub mod Going
-pub mod Passing
-pub mod Placed

@@ -1,5 +1,0 @@
-// The output of a trigger, entered into the tables of the next stage: its terms and facts, and its first cyclic row. The contracts cite the
-// definitions over rows of `stage_rows`.
-pub mod atoms;
-pub mod looping;
-pub mod output;

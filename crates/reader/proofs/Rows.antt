@@ -1,0 +1,50 @@
+-- The rows that the parsers of an atom, of atoms and of a rule fill. Assumes nothing.
+use mathlib.Core.Path.{_≡_, refl, sym, ap, _∙_}
+use mathlib.Core.List.{List, [], _∷_, _++_, append-nil}
+use Prim.Native.Nat.{ℕ, suc, _-_}
+use lib.ListN.{length, getD, take, drop, set}
+use lib.Bits.{bitOr}
+use Rattle.model.specs.Lists.{padded, collect}
+use Rattle.model.specs.Rules.{Atom, variablesOf}
+use Rattle.model.specs.Format.{Parsed, good, many, byte, variable, atom, atoms}
+use Rattle.model.specs.Form.{atomRow, group}
+use Rattle.form.specs.Sets.{setOf}
+use Rattle.reader.specs.Step.{zeros, Filled, atomSet, atomsSet}
+use Rattle.reader.specs.declared.Step.{Step}
+use Rattle.laws.proofs.Lists.{collect-append}
+use Rattle.form.proofs.Sets.{setOf-append}
+use Rattle.reader.proofs.Lists.{tail-length, headed-filled}
+use Rattle.reader.proofs.Parsing.{continues, maps, refill}
+use Rattle.reader.proofs.Many.{many-length}
+
+pub atom-filled : (bs arities : List ℕ) (i p j : ℕ) (row left : List ℕ) (r : Step) → byte bs 0 (length arities - 1) 7 i ≡ good p j → row ≡ zeros 5
+    → Filled setOf (padded (length (take (length (set row 0 p) - 1) (drop 1 (set row 0 p))))) (many (getD arities p 0) (variable bs) j) r left
+    → Filled atomSet atomRow (atom bs arities i) r (take 1 (set row 0 p) ++ (left ++ drop (length (set row 0 p) - 1) (drop 1 (set row 0 p))))
+unfolding atom atomRow
+atom-filled bs arities i p j row left r e z h =
+    continues _ _ _ _ _ _ p j e
+    (maps (λ (vs : List ℕ). record { predicate = p; variables = vs }) setOf atomSet _ atomRow _ r left _ (λ vs. refl)
+    (λ vs s. headed-filled 4 row p z vs left (s ∙ ap (λ (m : ℕ). padded m vs) (tail-length 4 row p z)))
+    h)
+
+pub atomsSet-more : (s v : ℕ) (a : Atom) → atomSet a ≡ v → (as' : List Atom) → atomsSet as' ≡ s → atomsSet (as' ++ (a ∷ [])) ≡ bitOr s v
+unfolding variablesOf collect
+atomsSet-more s v a e as' f =
+    ap setOf (collect-append (λ (x : Atom). x .variables) as' (a ∷ []))
+    ∙ setOf-append (variablesOf as') (a .variables ++ [])
+    ∙ rw (append-nil, e, f)
+
+-- a count, and so many values in the places after it
+pub counted-filled : {A : Type 0} (keep : List A → ℕ) (row : A → List ℕ) (p : ℕ → Parsed A) (m n j : ℕ) (place left : List ℕ) (r : Step) → place ≡ zeros (suc m)
+    → Filled keep (λ as'. padded m (collect row as')) (many n p j) r left
+    → Filled keep (λ as'. padded (suc m) (length as' ∷ collect row as')) (many n p j) r (take 1 (set place 0 n) ++ (left ++ drop (length (set place 0 n) - 1) (drop 1 (set place 0 n))))
+counted-filled {A} keep row p m n j place left r z h =
+    refill _ _ _ _ _ left _
+    (λ as' k e s. headed-filled m place n z (collect row as') left s ∙ ap (λ (l : ℕ). padded (suc m) (l ∷ collect row as')) (sym (many-length n p j as' k e)))
+    h
+
+pub atoms-filled : (bs arities : List ℕ) (i n j : ℕ) (place left : List ℕ) (r : Step) → byte bs 1 4 6 i ≡ good n j → place ≡ zeros 21
+    → Filled atomsSet (λ as'. padded 20 (collect atomRow as')) (many n (atom bs arities) j) r left
+    → Filled atomsSet group (atoms bs arities i) r (take 1 (set place 0 n) ++ (left ++ drop (length (set place 0 n) - 1) (drop 1 (set place 0 n))))
+unfolding atoms group
+atoms-filled bs arities i n j place left r e z h = continues _ _ _ _ _ _ n j e (counted-filled atomsSet atomRow (atom bs arities) 20 n j place left r z h)

@@ -1,0 +1,109 @@
+-- `reader::atom` meets its contract: the predicate, and then the variables, into one row. Assumes nothing.
+use mathlib.Core.Path.{_≡_, sym, _∙_}
+use Prim.Native.Nat.{_<_, _-_}
+use native.Mathlib.Omega.{arith}
+use lib.ListN.{length, length-set}
+use Rattle.model.specs.Format.{good, byte, atom}
+use Rattle.reader.specs.Step.{value}
+use Rattle.reader.proofs.Lists.{tail-zeros, tail-length, zeros-length, zeros-self, headed-length}
+use Rattle.reader.proofs.Parsing.{step-value, byte-good, refuses}
+use Rattle.reader.proofs.Rows.{atom-filled}
+use borrow.Author.Needs.{needs}
+use Rattle.reader.proofs.atom.Statement.{statement}
+use Rattle.reader.proofs.atom.Tie as tie
+
+sub-byte : tie.Need-sub-byte
+sub-byte c = search needs
+
+cast-byte : tie.Need-cast-byte
+cast-byte c = search needs
+
+byte-requires : tie.Need-byte-requires
+byte-requires c κs = search needs
+
+enum-known-head : tie.Need-enum-known-head
+enum-known-head c = search needs
+
+enum-told : tie.Need-enum-told
+enum-told c = search needs
+
+returns : tie.Need-returns
+unfolding atom
+returns c = refuses _ _ _ _ _ _ value _ _ (c .before .before .byte .ensures) (c .enum-told .given .1)
+
+-- the predicate
+read : (c : tie.After-head)
+    → byte (c .before .before .before .before .before .before .args .bytes .now) 0 (length (c .before .before .before .before .before .before .args .arities .now) - 1) 7 (c .before .before .before .before .before .before .args .i) ≡ good (c .head .given .0 .0) (c .head .given .0 .1 .0)
+read c = step-value _ _ _ (sym (c .head .given .1) ∙ c .before .before .byte .ensures)
+
+read-declared : (c : tie.After-head) → c .head .given .0 .0 < length (c .before .before .before .before .before .before .args .arities .now)
+read-declared c =
+    let h = byte-good _ _ _ _ _ _ _ (read c) in
+    let s = c .before .before .before .before .before .before .pre .0 .some in
+    omega arith
+
+cast-row : tie.Need-cast-row
+cast-row c = search needs
+
+slice-write-row : tie.Need-slice-write-row
+slice-write-row c = omega (arith, zeros-length 5 _ (c .before .before .before .before .before .before .before .pre .1))
+
+cast-n : tie.Need-cast-n
+cast-n c = search needs
+
+mul-n : tie.Need-mul-n
+mul-n c = search needs
+
+shared-slice-read-n : tie.Need-shared-slice-read-n
+shared-slice-read-n c = read-declared (c .before .before)
+
+cast-n-2 : tie.Need-cast-n-2
+cast-n-2 c = omega (arith, c .before .before .before .before .before .before .before .before .pre .0 .small (c .before .before .head .given .0 .0))
+
+sub-variables : tie.Need-sub-variables
+sub-variables c = simp length-set (omega (arith, zeros-length 5 _ (c .before .before .before .before .before .before .before .before .pre .1)))
+
+part-variables-start : tie.Need-part-variables-start
+part-variables-start c = simp length-set (omega (arith, zeros-length 5 _ (c .before .before .before .before .before .before .before .before .pre .1)))
+
+part-variables-end : tie.Need-part-variables-end
+part-variables-end c = search needs
+
+variables-requires : tie.Need-variables-requires
+variables-requires c κs =
+    let z = c .before .before .before .before .before .before .before .before .before .pre in
+    let l = tail-length 4 _ (c .before .before .before .head .given .0 .0) (z .1) in
+    let a = z .0 .small (c .before .before .before .head .given .0 .0) in
+    (omega arith, zeros-self 4 _ (tail-zeros 4 _ _ (z .1)))
+
+same-length : tie.Need-same-length
+same-length c =
+    headed-length (c .before .before .before .before .before .before .before .before .before .before .before .before .args .row .now) (c .before .before .before .before .before .before .head .given .0 .0) (c .before .before .variables .last .1 .1 .1 .0)
+    (c .before .before .variables .kept .1 .1 .1 .0)
+
+returns-2 : tie.Need-returns-2
+returns-2 c =
+    atom-filled _ _ _ _ _ _ _ _ (read (c .before .before .before .before .before .before)) (c .before .before .before .before .before .before .before .before .before .before .before .before .pre .1) (c .before .before .variables .ensures)
+
+pub atom-spec : {M : Type 1} → statement M
+atom-spec =
+    tie.close
+    (tie.spec
+    sub-byte
+    cast-byte
+    byte-requires
+    enum-known-head
+    enum-told
+    returns
+    cast-row
+    slice-write-row
+    cast-n
+    mul-n
+    shared-slice-read-n
+    cast-n-2
+    sub-variables
+    part-variables-start
+    part-variables-end
+    variables-requires
+    same-length
+    returns-2)

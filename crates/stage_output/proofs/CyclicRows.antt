@@ -1,0 +1,124 @@
+-- Cyclic rows: by marks of their arguments; and the first of them, row by row. Assumes nothing.
+use mathlib.Core.Path.{_≡_, refl, sym, ap, _∙_, subst}
+use mathlib.Core.Bool.{Bool, true, false, _||_}
+use mathlib.Core.Logic.{_⊎_, inl, inr}
+use mathlib.Core.List.{List, [], _∷_, _++_, append-nil, List·Memᴰ}
+use Prim.Native.Nat.{ℕ, _+_, _≤_, _<_}
+use native.Mathlib.Numerals.{add-one}
+use native.Mathlib.Omega.{arith}
+use lib.ListN.{length, getD, set}
+use lib.Seq.{getD-set-other}
+use borrow.Author.Tests.{eq-eqb, ne-eqb}
+use Rattle.model.specs.Lists.{any, collect, numbersFrom}
+use Rattle.laws.proofs.Bools.{case}
+use Rattle.laws.proofs.Lists.{collect-append}
+use Rattle.tables.specs.Rows.{rows}
+use Rattle.tables.specs.Terms.{argumentOf, argumentsOf, Ordered, occursAt, marked, occursMarked}
+use Rattle.tables.proofs.Terms.{argumentsOf-mem, occurs-more, occurs-none}
+use Rattle.tables.proofs.Tables.{rows-length}
+use Rattle.outputs.proofs.Atoms.{numbersFrom-snoc}
+use Rattle.rows.specs.Copies.{argumentsIn}
+use Rattle.blocking.proofs.Copies.{numbersFrom-take}
+use Rattle.rows.specs.Making.{occursIn, cyclicRow, firstCyclic}
+use Rattle.stage_output.specs.Cyclic.{loopOf, Arguments, rowWith, rowsWith, Settled}
+use Rattle.stage_output.proofs.Flat.{any-agree, occursIn-is}
+
+-- the first terms of a table by themselves
+pub ordered-front : {n : ℕ} {t : List ℕ} (k : ℕ) → k ≤ n → Ordered n t → Ordered k t
+ordered-front k h o =
+    record { room = let r = o .room in omega arith; arity = λ i l. o .arity i (omega arith); before = λ i j l m. o .before i j (omega arith) m }
+
+-- the arguments of a row, as of the first term of a table
+
+pub argument-first : (row : List ℕ) (j : ℕ) → argumentOf row 0 j ≡ getD row (j + 2) 0
+argument-first row j = let e : 2 + j ≡ j + 2 = omega arith in ap (λ (k : ℕ). getD row k 0) e
+
+arguments-first : (row : List ℕ) → length row ≡ 10 → getD row 1 0 ≤ 8 → argumentsIn row ≡ argumentsOf row 0
+unfolding argumentsIn argumentsOf
+arguments-first row long h = sym (numbersFrom-take row 2 (getD row 1 0) (omega arith))
+
+-- a row is cyclic if its function stands in a marked term, when its arguments are marked and nothing else, of the first k, which they are among
+pub cyclic-marked : {n k : ℕ} {t row : List ℕ} → Ordered n t → k ≤ n → length row ≡ 10 → Arguments k row
+    → (marks : List Bool) → k ≤ length marks → ((a : ℕ) → a < k → getD marks a false ≡ false)
+    → cyclicRow (rows 10 n t) row ≡ occursMarked t (getD row 0 0) k (marked (argumentsOf row 0) marks)
+unfolding cyclicRow
+cyclic-marked {n} {k} {t} {row} o few long h marks room none =
+    ap (any (occursIn (length (rows 10 n t)) (rows 10 n t) f)) (arguments-first row long (h .few))
+    ∙ any-agree (occursIn (length (rows 10 n t)) (rows 10 n t) f) (occursAt t f) (argumentsOf row 0)
+    (λ a m. let l = below a m in occursIn-is o (length (rows 10 n t)) f a (omega arith) (omega (arith, rows-length 10 n t)))
+    ∙ sym (occurs-more t f k (argumentsOf row 0) marks below room ∙ ap (λ (b : Bool). b || any (occursAt t f) (argumentsOf row 0)) (occurs-none t f k marks none))
+  where
+    f : ℕ
+    f = getD row 0 0
+
+    below : (a : ℕ) → List·Memᴰ a (argumentsOf row 0) → a < k
+    below a m = let (j, l, e) = argumentsOf-mem row 0 m in omega (arith, e, argument-first row j, h .within j l)
+
+-- a row with another function has the same arguments
+pub arguments-set : {n : ℕ} {template : List ℕ} (f : ℕ) → Arguments n template → Arguments n (set template 0 f)
+arguments-set {n} {template} f h =
+    let e : getD (set template 0 f) 1 0 ≡ getD template 1 0 = getD-set-other template 0 1 f 0 (λ p. omega arith) in
+    record {
+      few = omega (arith, h .few);
+      within = λ j l. subst (λ (x : ℕ). x < n) (sym (getD-set-other template 0 (j + 2) f 0 (λ p. omega arith)))
+          (h .within j (subst (λ (x : ℕ). j < x) e l));
+    }
+
+-- the first cyclic row
+
+module _ (ts : List (List ℕ)) where
+  pub first-none : (ls : List (List ℕ)) → firstCyclic ts ls [] ≡ ls
+  unfolding firstCyclic
+  first-none [] = refl
+  first-none (l ∷ ls) = refl
+
+  pub first-append : (ls xs ys : List (List ℕ)) → firstCyclic ts ls (xs ++ ys) ≡ firstCyclic ts (firstCyclic ts ls xs) ys
+  unfolding firstCyclic
+  first-append (l ∷ ls) xs ys = refl
+  first-append [] [] ys = refl
+  first-append [] (x ∷ xs) ys = go (first-append [] xs ys) (case (cyclicRow ts x))
+    where
+      go : firstCyclic ts [] (xs ++ ys) ≡ firstCyclic ts (firstCyclic ts [] xs) ys → (cyclicRow ts x ≡ true) ⊎ (cyclicRow ts x ≡ false)
+          → firstCyclic ts [] (x ∷ (xs ++ ys)) ≡ firstCyclic ts (firstCyclic ts [] (x ∷ xs)) ys
+      go below (inl e) = rw (e, firstCyclic)
+      go below (inr e) = rw (e, firstCyclic) below
+
+  -- one was found before
+  pub first-old : (found : Bool) (row : List ℕ) (rs : List (List ℕ)) → found ≡ true → loopOf found row ≡ firstCyclic ts (loopOf found row) rs
+  unfolding firstCyclic loopOf
+  first-old found row rs e = rw (e, loopOf)
+
+  module _ (found : Bool) (row : List ℕ) (f : ℕ) (template : List ℕ) where
+    -- a variable of the body
+    pub first-without : f ≡ 0 → loopOf found row ≡ firstCyclic ts (loopOf found row) (rowWith f template)
+    unfolding rowWith
+    first-without e = sym (rw (eq-eqb f 0 e, rowWith) (first-none (loopOf found row)))
+
+    -- a variable with a Skolem function, by its test
+    pub first-test : found ≡ false → (f ≡ 0 → ⊥) → (cyclic : Bool) → cyclic ≡ cyclicRow ts (set template 0 f)
+        → loopOf cyclic (set template 0 f) ≡ firstCyclic ts (loopOf found row) (rowWith f template)
+    unfolding rowWith loopOf firstCyclic
+    first-test e h true c = rw (e, ne-eqb f 0 h, loopOf, rowWith) (rw (sym c, firstCyclic))
+    first-test e h false c = rw (e, ne-eqb f 0 h, loopOf, rowWith) (rw (sym c, firstCyclic))
+
+  -- a function that was tested makes no difference again
+  pub settled : (f : ℕ) (template : List ℕ) → (f ≡ 0 → ⊥) → (cyclic : Bool) → cyclic ≡ cyclicRow ts (set template 0 f) → Settled ts template cyclic (set template 0 f) f
+  settled f template h true c = first-old true (set template 0 f) (rowWith f template) refl
+  settled f template h false c = first-test false (set template 0 f) f template refl h false c
+
+-- the Skolem rows of an atom's variables, one more
+pub rowsWith-none : (functions template atom : List ℕ) → rowsWith functions template (numbersFrom atom 1 0) ≡ []
+unfolding rowsWith numbersFrom collect
+rowsWith-none functions template atom = refl
+
+pub rowsWith-more : (functions template atom : List ℕ) (p : ℕ)
+    → rowsWith functions template (numbersFrom atom 1 (p + 1)) ≡ rowsWith functions template (numbersFrom atom 1 p) ++ rowWith (getD functions (getD atom (p + 1) 0) 0) template
+unfolding rowsWith collect
+rowsWith-more functions template atom p =
+    let with : ℕ → List (List ℕ) = λ v. rowWith (getD functions v 0) template in
+    let e : 1 + p ≡ p + 1 = omega arith in
+    ap (λ (k : ℕ). collect with (numbersFrom atom 1 k)) (add-one p)
+    ∙ ap (collect with) (numbersFrom-snoc atom 1 p)
+    ∙ collect-append with (numbersFrom atom 1 p) (getD atom (1 + p) 0 ∷ [])
+    ∙ ap (λ (rs : List (List ℕ)). collect with (numbersFrom atom 1 p) ++ rs) (append-nil (with (getD atom (1 + p) 0)))
+    ∙ ap (λ (k : ℕ). collect with (numbersFrom atom 1 p) ++ with (getD atom k 0)) e

@@ -1,0 +1,48 @@
+-- Sizes and occurrences over the rows of a table of terms are those by its numbers. Assumes nothing.
+use mathlib.Core.Path.{_≡_, refl, sym, ap, ap₂, _∙_}
+use mathlib.Core.Bool.{Bool, _||_}
+use mathlib.Core.List.{List, [], _∷_, List·Memᴰ, List·Memᴰ·head, List·Memᴰ·tail}
+use Prim.Native.Nat.{ℕ, zero, suc, _+_, _*_, _<_}
+use native.Mathlib.Nat.{add-zero}
+use native.Mathlib.Omega.{arith}
+use lib.Dec.{eqb}
+use lib.ListN.{getD}
+use Rattle.model.specs.Lists.{any}
+use Rattle.tables.specs.Rows.{rows}
+use Rattle.tables.specs.Terms.{Ordered, functionOf, argumentsOf, total as totalOf, sizeAt, occursAt}
+use Rattle.tables.proofs.Terms.{argumentsOf-before, sizeAt-is, occursAt-is}
+use Rattle.blocking.proofs.Copies.{getD-cell, argumentsIn-row}
+use Rattle.rows.specs.Making.{occursIn}
+use Rattle.rows.specs.Judging.{total, sizeIn}
+
+pub total-agree : (f g : ℕ → ℕ) (xs : List ℕ) → ((x : ℕ) → List·Memᴰ x xs → f x ≡ g x) → total f xs ≡ totalOf g xs
+unfolding total totalOf
+total-agree f g [] h = refl
+total-agree f g (x ∷ xs) h = ap₂ (λ (a b : ℕ). a + b) (h x (List·Memᴰ·head refl)) (total-agree f g xs (λ y m. h y (List·Memᴰ·tail m)))
+
+pub any-agree {ℓ} : {A : Type ℓ} (f g : A → Bool) (xs : List A) → ((x : A) → List·Memᴰ x xs → f x ≡ g x) → any f xs ≡ any g xs
+unfolding any
+any-agree f g [] h = refl
+any-agree f g (x ∷ xs) h = ap₂ (λ (a b : Bool). a || b) (h x (List·Memᴰ·head refl)) (any-agree f g xs (λ y m. h y (List·Memᴰ·tail m)))
+
+module _ {n : ℕ} {t : List ℕ} (o : Ordered n t) where
+  pub sizeIn-is : (k i : ℕ) → i < n → i < k → sizeIn k (rows 10 n t) i ≡ sizeAt t i
+  unfolding sizeIn
+  sizeIn-is zero i h l = absurd (omega arith)
+  sizeIn-is (suc k) i h l =
+      ap (λ (as' : List ℕ). suc (total (sizeIn k (rows 10 n t)) as')) (argumentsIn-row o i h)
+      ∙ ap suc (total-agree (sizeIn k (rows 10 n t)) (sizeAt t) (argumentsOf t i)
+      (λ x p. let b = argumentsOf-before o i x h p in sizeIn-is k x (omega arith) (omega arith)))
+      ∙ sym (sizeAt-is o i h)
+
+  function-is : (i : ℕ) → i < n → getD (getD (rows 10 n t) i []) 0 0 ≡ functionOf t i
+  function-is i h = getD-cell n t i 0 h (omega arith) ∙ ap (λ (k : ℕ). getD t k 0) (add-zero (i * 10))
+
+  pub occursIn-is : (k f i : ℕ) → i < n → i < k → occursIn k (rows 10 n t) f i ≡ occursAt t f i
+  unfolding occursIn
+  occursIn-is zero f i h l = absurd (omega arith)
+  occursIn-is (suc k) f i h l =
+      ap₂ (λ (x : ℕ) (as' : List ℕ). eqb f x || any (occursIn k (rows 10 n t) f) as') (function-is i h) (argumentsIn-row o i h)
+      ∙ ap (λ (b : Bool). eqb f (functionOf t i) || b) (any-agree (occursIn k (rows 10 n t) f) (occursAt t f) (argumentsOf t i)
+      (λ x p. let b = argumentsOf-before o i x h p in occursIn-is k f x (omega arith) (omega arith)))
+      ∙ sym (occursAt-is o f i h)

@@ -1,0 +1,8 @@
+pub mod Bodies
+pub mod CyclicRows
+pub mod Disjuncts
+pub mod Entering
+pub mod Flat
+pub mod Going
+pub mod Passing
+pub mod Placed

@@ -1,0 +1,104 @@
+-- `stage_output::cyclic::with_atom` meets its contract. The loop's invariant: the first `p` variables have been looked at, and the row of the function
+-- tested last makes no difference. Assumes nothing.
+use mathlib.Core.Path.{_≡_, sym, ap, _∙_}
+use mathlib.Core.List.{List}
+use Prim.Native.Nat.{ℕ, _+_, _-_, _≤_}
+use native.Mathlib.Omega.{arith}
+use lib.ListN.{getD}
+use Rattle.model.specs.Lists.{numbersFrom}
+use Rattle.tables.specs.Rows.{rows}
+use Rattle.rows.specs.Making.{firstCyclic}
+use Rattle.stage_output.specs.Cyclic.{loopOf, rowWith, rowsWith, Settled}
+use Rattle.stage_output.proofs.CyclicRows.{first-none, first-append, rowsWith-none, rowsWith-more}
+use Rattle.stage_output.proofs.cyclic.with_atom.Statement.{statement}
+use Rattle.stage_output.proofs.cyclic.with_atom.Tie as tie
+
+abbrev Inv-loop : tie.InvT-loop
+Inv-loop arity template terms n atom functions found₀ row₀ tested₀ p₀ found row tested p =
+    (p ≤ arity) × (loopOf found row ≡ firstCyclic (rows 10 n terms) (loopOf found₀ row₀) (rowsWith functions template (numbersFrom atom 1 p)))
+    × Settled (rows 10 n terms) template found row tested
+
+abbrev μ-loop : tie.MeasureT-loop
+μ-loop arity template terms n atom functions found₀ row₀ tested₀ p₀ found row tested p = arity - p
+
+loop-holds : tie.Need-loop-holds Inv-loop μ-loop
+loop-holds c =
+    let s = c .before .before in
+    let a = s .args in
+    let ts = rows 10 (a .n) (a .terms .now) in (
+      omega arith,
+      sym (ap (firstCyclic ts (loopOf (a .before .found) (a .before .row))) (rowsWith-none (a .t3) (a .template) (a .t1)) ∙ first-none ts (loopOf (a .before .found) (a .before .row))),
+      s .pre .4,
+    )
+
+add-function : tie.Need-add-function Inv-loop μ-loop
+add-function c = omega arith
+
+mul-function : tie.Need-mul-function Inv-loop μ-loop
+mul-function c = omega arith
+
+array-read-function : tie.Need-array-read-function Inv-loop μ-loop
+array-read-function c = omega arith
+
+cast-function : tie.Need-cast-function Inv-loop μ-loop
+cast-function c = omega (arith, c .before .before .before .before .pre .0 .variables (c .before .loop .p) (c .loop-test .taken))
+
+mul-function-2 : tie.Need-mul-function-2 Inv-loop μ-loop
+mul-function-2 c = omega (arith, c .before .before .before .before .pre .0 .variables (c .before .loop .p) (c .loop-test .taken))
+
+array-read-function-2 : tie.Need-array-read-function-2 Inv-loop μ-loop
+array-read-function-2 c = omega (arith, c .before .before .before .before .pre .0 .variables (c .before .loop .p) (c .loop-test .taken))
+
+with-variable-requires : tie.Need-with-variable-requires Inv-loop μ-loop
+with-variable-requires c κs = let s = c .before .before .before .before in (s .pre .1, s .pre .2, s .pre .3, c .before .loop .inv .2)
+
+add-p : tie.Need-add-p Inv-loop μ-loop
+add-p c = omega arith
+
+loop-less : tie.Need-loop-less Inv-loop μ-loop
+loop-less c = omega arith
+
+loop-again : tie.Need-loop-again Inv-loop μ-loop
+loop-again c =
+    let w = c .before .with-variable .ensures in
+    let l = c .before .before .before in
+    let a = l .before .before .before .args in
+    let ts = rows 10 (a .n) (a .terms .now) in
+    let f = getD (a .t3) (getD (a .t1) (l .loop .p + 1) 0) 0 in
+    let seen = rowsWith (a .t3) (a .template) (numbersFrom (a .t1) 1 (l .loop .p)) in (
+      omega arith,
+      w .0
+          ∙ ap (λ (ls : List (List ℕ)). firstCyclic ts ls (rowWith f (a .template))) (l .loop .inv .1)
+          ∙ sym (first-append ts (loopOf (a .before .found) (a .before .row)) seen (rowWith f (a .template)))
+          ∙ ap (firstCyclic ts (loopOf (a .before .found) (a .before .row))) (sym (rowsWith-more (a .t3) (a .template) (a .t1) (l .loop .p))),
+      w .1,
+    )
+
+returns : tie.Need-returns Inv-loop μ-loop
+returns c =
+    let l = c .before in
+    let a = l .before .before .before .args in
+    let e : l .loop .p ≡ a .arity = omega arith in (
+      l .loop .inv .1
+          ∙ ap (λ (k : ℕ). firstCyclic (rows 10 (a .n) (a .terms .now)) (loopOf (a .before .found) (a .before .row)) (rowsWith (a .t3) (a .template) (numbersFrom (a .t1) 1 k))) e,
+      l .loop .inv .2,
+    )
+
+pub with-atom-spec : {M : Type 1} → statement M
+with-atom-spec =
+    tie.close
+    (tie.spec
+    Inv-loop
+    μ-loop
+    loop-holds
+    add-function
+    mul-function
+    array-read-function
+    cast-function
+    mul-function-2
+    array-read-function-2
+    with-variable-requires
+    add-p
+    loop-less
+    loop-again
+    returns)

@@ -1,1 +1,0 @@
-// The stages and the verdict over rows of numbers, in specs/.

@@ -1,0 +1,4 @@
+pub mod Large
+pub mod Pinning
+pub mod Stage
+pub mod Blockable

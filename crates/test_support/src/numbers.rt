@@ -1,0 +1,23 @@
+// Lists of numbers that were full of the mark 65535, which no form and no record has. The contracts cite specs/Same.
+ghost use Rattle.test_support.specs.Same.{Decides};
+
+// Whether every number of a list is this one.
+pub fn is_full(list: &[u16], number: u16) -> bool
+    ensures { λ r. ⌜ Decides r (now (list .entry)) (λ k. number) ⌝ }
+{
+    let mut k = 0;
+    while k < list.len() {
+        if list[k] != number {
+            return false;
+        }
+        k += 1;
+    }
+    true
+}
+
+// Whether every number is the mark.
+pub fn is_marked(list: &[u16]) -> bool
+    ensures { λ r. ⌜ Decides r (now (list .entry)) (λ k. 65535) ⌝ }
+{
+    is_full(list, 65535)
+}

@@ -1,0 +1,97 @@
+// Writes the texts of an accepted answer, a cyclic one and refusals, over small tables.
+use dmfa::verdict::Verdict;
+use libc::STDOUT_FILENO;
+ghost use Prim.Native.Nat.{_≤_};
+ghost use lib.ListN.{length};
+ghost use Rattle.model.specs.Text.{text};
+ghost use Rattle.dmfa.specs.Verdict.{meant};
+ghost use Rattle.report.specs.Legible.{Legible};
+
+fn show(verdict: Verdict, arities: &[u16], terms: &[u16], facts: &[u16])
+    requires { ⌜ Legible (now arities) verdict (now terms) (now facts) × (length (text (now arities) (meant verdict) (now terms) (now facts)) ≤ 256) ⌝ }
+{
+    let mut out = [0u8; 256];
+    let n = report::write_text(verdict, arities, terms, facts, &mut out);
+    io::write_all(STDOUT_FILENO, &out[..n]);
+}
+
+// River of document 01.
+fn river() {
+    let arities = [1, 2, 1];
+    let terms = [0, 0, 0, 0, 0, 0, 0, 0, 0, 0, 1, 1, 0, 0, 0, 0, 0, 0, 0, 0];
+    let facts = [
+        0,
+        0,
+        0,
+        0,
+        0,
+        1,
+        0,
+        0,
+        0,
+        0,
+        2,
+        0,
+        0,
+        0,
+        0,
+        1,
+        0,
+        1,
+        0,
+        0,
+        2,
+        1,
+        0,
+        0,
+        0,
+    ];
+    show(Verdict::Accepted(2, 5, 2), &arities, &terms, &facts);
+}
+
+// A cyclic answer with the longest records, and numbers of every length.
+fn widest() {
+    let arities = [4, 1];
+    let terms = [
+        0,
+        0,
+        0,
+        0,
+        0,
+        0,
+        0,
+        0,
+        0,
+        0,
+        2048,
+        8,
+        0,
+        9,
+        10,
+        99,
+        100,
+        511,
+        9999,
+        65535,
+    ];
+    let facts = [0, 0, 9, 10, 65535, 1, 511, 0, 0, 0];
+    show(Verdict::Cyclic(1000, 2, 1), &arities, &terms, &facts);
+}
+
+fn refusals() {
+    let none = [0];
+    show(Verdict::Refused(1, 0), &none, &none, &none);
+    show(Verdict::Refused(10, 6856), &none, &none, &none);
+    show(
+        Verdict::Refused(14, 18446744073709551615),
+        &none,
+        &none,
+        &none,
+    );
+}
+
+fn main() {
+    river();
+    widest();
+    refusals();
+}

@@ -1,0 +1,115 @@
+// A case `L TTTT FFFF BOOK TEXT` of `print`: which lists it is lent, what it leaves of the tables, as `tables` says, the book's file, and the
+// file of the text. L is `=` for lists of the lengths that `print` asks for, `+` for longer ones, `t`, `f` or `o` where the terms, the facts or
+// the text's bytes are one short: then the answer is refusal 1 at place 0, and nothing is touched.
+use crate::tables;
+use report::print;
+use test_support::answer::Answer;
+use test_support::answer::is_other;
+use test_support::answer::shown;
+use test_support::bytes;
+use test_support::column::find;
+use test_support::file;
+use test_support::say;
+ghost use Prim.Native.Nat.{_+_, _<_, _≤_};
+ghost use lib.ListN.{length};
+
+// The length of a list of which `letter` says that it is one short.
+fn room(lists: u8, letter: u8, asked: usize) -> usize
+    requires { ⌜ (0 < asked) × (asked < 100000) ⌝ }
+    ensures { λ r. ⌜ r ≤ asked + 57 ⌝ }
+{
+    if lists == letter {
+        return asked - 1;
+    }
+    if lists == b'+' {
+        return asked + 57;
+    }
+    asked
+}
+
+fn expected(lists: u8, length: usize) -> Answer {
+    if lists == b't' || lists == b'f' || lists == b'o' {
+        return Answer {
+            refusal: 1,
+            place: 0,
+        };
+    }
+    Answer {
+        refusal: 0,
+        place: length,
+    }
+}
+
+// Whether the answer, the text or the tables differ, over lists of marks.
+fn compared(
+    line: &[u8],
+    book: &[u8],
+    text: &[u8],
+    terms: &mut [u16],
+    facts: &mut [u16],
+    out: &mut [u8],
+) -> bool
+    requires { ⌜ 2 ≤ length (now line) ⌝ }
+{
+    let transfer = print(book, &mut *terms, &mut *facts, &mut *out);
+    let found = shown(transfer);
+    if is_other(line, expected(line[0], text.len()), found) {
+        return true;
+    }
+    if !bytes::is_right(text, found.refusal, out) {
+        say::note(line, b"another text");
+        return true;
+    }
+    if tables::are_right(&line[2..], terms, facts) {
+        return false;
+    }
+    say::note(line, b"other tables");
+    true
+}
+
+// Whether `print` differs on a book, over lists that its case names.
+fn tried(line: &[u8], book: &[u8], text: &[u8]) -> bool
+    requires { ⌜ 2 ≤ length (now line) ⌝ }
+{
+    let lists = line[0];
+    let mut terms = [65535u16; 5187];
+    let mut facts = [65535u16; 10297];
+    let mut out = [238u8; 72824];
+    let t = room(lists, b't', 5130);
+    let f = room(lists, b'f', 10240);
+    let o = room(lists, b'o', 72767);
+    compared(
+        line,
+        book,
+        text,
+        &mut terms[0..t],
+        &mut facts[0..f],
+        &mut out[0..o],
+    )
+}
+
+// Whether a case differs, by at most the first 6,856 bytes of its book.
+pub fn differs(line: &[u8]) -> bool {
+    if line.len() < 12 {
+        say::note(line, b"no case");
+        return true;
+    }
+    let space = find(line, 12, b' ');
+    if line.len() <= space {
+        say::note(line, b"no case");
+        return true;
+    }
+    let fd = file::open(&line[12..space]);
+    if fd < 0 {
+        return true;
+    }
+    let mut book = [0u8; 6856];
+    let n = file::load(fd, &mut book[..]);
+    let fd = file::open(&line[space + 1..]);
+    if fd < 0 {
+        return true;
+    }
+    let mut text = [0u8; 72768];
+    let m = file::load(fd, &mut text[..]);
+    tried(line, &book[..n], &text[..m])
+}

@@ -1,9 +1,0 @@
--- Which verdict of the model each case of the answer is. Assumes nothing.
-use Rattle.model.specs.Stages as stages
-use Rattle.verdict.specs.declared.Verdict.{Verdict}
-use Rattle.verdict.specs.declared.Verdict.the-variants.{Accepted, Cyclic, Refused}
-
-abbrev pub meant : Verdict → stages.Verdict
-meant (Accepted n f t) = stages.accepted n f t
-meant (Cyclic n f t) = stages.looping n f t
-meant (Refused n p) = stages.refused n p
