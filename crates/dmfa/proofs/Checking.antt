@@ -9,7 +9,8 @@ use Rattle.model.specs.WellFormed.{WellFormed}
 use Rattle.model.specs.Format.{Parsed, good, bad, read}
 use Rattle.model.specs.Form.{formLength, decoded, done, refusal, Reading, reading}
 use Rattle.model.specs.Stages.{Verdict, accepted, looping, refused, stage, cyclicTerms, verdict}
-use Rattle.model.specs.Tables.{termRow, factRow, fronted, termsFront, factsFront, checked}
+use Rattle.model.specs.Limits.{termsFront, factsFront}
+use Rattle.model.specs.Tables.{termRow, factRow, fronted, checked}
 use Rattle.dmfa.specs.declared.verdict.Verdict as declared
 use Rattle.dmfa.specs.Verdict.{meant}
 use Rattle.laws_stages.proofs.Verdict.{Reached, reached-facts-within, reached-terms-within, accepted-says, looping-says}

@@ -9,7 +9,8 @@ use Rattle.model.specs.Rules.{RuleSet, entries}
 use Rattle.model.specs.Format.{good, read}
 use Rattle.model.specs.Triggers.{Fact}
 use Rattle.model.specs.Stages.{stage, accepted, looping, refused, verdict, cyclicTerms}
-use Rattle.model.specs.Tables.{Checked, checked, termsFront, factsFront}
+use Rattle.model.specs.Limits.{termsFront, factsFront}
+use Rattle.model.specs.Tables.{Checked, checked}
 use Rattle.model.specs.Spelled.{termAt}
 use Rattle.model.specs.Published.{Dmfa}
 use Rattle.model.specs.Demand.{Demand3}

@@ -11,7 +11,8 @@ use Rattle.model.specs.Rules.{RuleSet}
 use Rattle.model.specs.Format.{good, read}
 use Rattle.model.specs.Triggers.{Fact}
 use Rattle.model.specs.Stages.{accepted, looping, refused, stage}
-use Rattle.model.specs.Tables.{checked, fronted, termsFront, factsFront}
+use Rattle.model.specs.Limits.{termsFront, factsFront}
+use Rattle.model.specs.Tables.{checked, fronted}
 use Rattle.model.specs.Spelled.{termAt, spelledFacts}
 use Rattle.model.specs.Published.{Dmfa}
 use Rattle.model.specs.Demand.{Demand3}

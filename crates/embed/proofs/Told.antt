@@ -12,7 +12,7 @@ use Rattle.model.specs.Rules.{RuleSet}
 use Rattle.model.specs.Format.{Parsed, good, bad, read}
 use Rattle.model.specs.Stages.{Verdict, accepted, looping, refused}
 use Rattle.model.specs.Form.{Transfer, done, refusal, formLength, reading, Writing, writing}
-use Rattle.model.specs.Tables.{termsFront, factsFront}
+use Rattle.model.specs.Limits.{termsFront, factsFront}
 use Rattle.laws.proofs.Bools.{case}
 use Rattle.laws_format.proofs.RoundTrip.{reading-short, reading-bad, reading-good, Written, faulty, short, whole, writing-written}
 use Rattle.laws_tables.proofs.Refusals.{Faulty, read-faulty}

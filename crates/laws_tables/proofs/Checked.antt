@@ -10,7 +10,8 @@ use Rattle.model.specs.Rules.{RuleSet, entries}
 use Rattle.model.specs.WellFormed.{WellFormed}
 use Rattle.model.specs.Format.{good, read}
 use Rattle.model.specs.Stages.{stage, Verdict, accepted, looping, refused, verdict, cyclicTerms}
-use Rattle.model.specs.Tables.{Checked, checked, left, termsFront, factsFront}
+use Rattle.model.specs.Limits.{termsFront, factsFront}
+use Rattle.model.specs.Tables.{Checked, checked, left}
 use Rattle.model.specs.Spelled.{termAt}
 use Rattle.laws_format.proofs.Bytes.{read-well-formed}
 use Rattle.laws_tables.proofs.Rows.{length-fronted, drop-fronted, fronted-within}

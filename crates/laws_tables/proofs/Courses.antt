@@ -14,7 +14,8 @@ use Rattle.model.specs.Lists.{padded}
 use Rattle.model.specs.Rules.{RuleSet}
 use Rattle.model.specs.Format.{Parsed, good, bad, read}
 use Rattle.model.specs.Stages.{Verdict, accepted, looping, refused, verdict}
-use Rattle.model.specs.Tables.{Checked, checked, left, recorded, fronted, termsFront, factsFront}
+use Rattle.model.specs.Limits.{termsFront, factsFront}
+use Rattle.model.specs.Tables.{Checked, checked, left, recorded, fronted}
 use Rattle.laws.proofs.Bools.{case, and-true, true-and, is-false}
 use Rattle.laws_tables.proofs.Rows.{take-fronted}
 use Rattle.laws_tables.proofs.Refusals.{Faulty, read-faulty, Excessive, verdict-excessive}

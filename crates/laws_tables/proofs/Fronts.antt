@@ -10,7 +10,8 @@ use Rattle.model.specs.Lists.{padded}
 use Rattle.model.specs.Term.{Term, Terms, star, skolem, list}
 use Rattle.model.specs.Triggers.{Fact}
 use Rattle.model.specs.Stages.{Stage, Verdict}
-use Rattle.model.specs.Tables.{Checked, number, termRow, factRow, recorded, termsFront, factsFront}
+use Rattle.model.specs.Limits.{termsFront, factsFront}
+use Rattle.model.specs.Tables.{Checked, number, termRow, factRow, recorded}
 use Rattle.laws.proofs.Lists.{collect-mem, map-mem}
 use Rattle.laws_format.proofs.Lists.{length-collect}
 use Rattle.laws_tables.proofs.Rows.{length-fronted, take-fronted, drop-fronted, padded-mem, fronted-within}

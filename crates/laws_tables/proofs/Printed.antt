@@ -9,7 +9,8 @@ use Rattle.model.specs.Rules.{RuleSet}
 use Rattle.model.specs.WellFormed.{WellFormed}
 use Rattle.model.specs.Format.{good, read}
 use Rattle.model.specs.Stages.{Verdict, accepted, looping, refused, stage, verdict}
-use Rattle.model.specs.Tables.{Checked, checked, left, termsFront, factsFront}
+use Rattle.model.specs.Limits.{termsFront, factsFront}
+use Rattle.model.specs.Tables.{Checked, checked, left}
 use Rattle.model.specs.Text.{termNumbers, text, declared, textOf, printed}
 use Rattle.laws_stages.proofs.Verdict.{accepted-says, looping-says, reached-bounded}
 use Rattle.laws_format.proofs.Bytes.{read-well-formed}

@@ -8,7 +8,8 @@ use Rattle.model.specs.Lists.{collect}
 use Rattle.model.specs.Term.{Term, star}
 use Rattle.model.specs.Triggers.{Fact}
 use Rattle.model.specs.Stages.{Stage, Verdict}
-use Rattle.model.specs.Tables.{Checked, termRow, factRow, fronted, recorded, termsFront, factsFront}
+use Rattle.model.specs.Limits.{termsFront, factsFront}
+use Rattle.model.specs.Tables.{Checked, termRow, factRow, fronted, recorded}
 use Rattle.model.specs.Spelled.{termAt, spelledTerms, spelledFacts}
 use Rattle.laws_tables.proofs.Rows.{fronted-append}
 use Rattle.laws_tables.proofs.Terms.{TermList, termAt-table, spelledTerms-table}

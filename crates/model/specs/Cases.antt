@@ -3,9 +3,10 @@
 use mathlib.Core.List.{List, [], _∷_, _++_}
 use Prim.Native.Nat.{ℕ, _-_}
 use lib.ListN.{length, replicate}
+use Rattle.model.specs.Limits.{termsFront, factsFront}
 use Rattle.model.specs.Lists.{collect, padded}
 use Rattle.model.specs.Stages.{Verdict, accepted, looping, refused}
-use Rattle.model.specs.Tables.{Checked, termsFront, factsFront, fronted}
+use Rattle.model.specs.Tables.{Checked, fronted}
 
 -- what is to be found in the tables: what stood there, or rows of terms and of facts, each without its zeros at the end
 pub data Tables : Type 0 where

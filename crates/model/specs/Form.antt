@@ -9,28 +9,39 @@ use mathlib.Core.Bool.{Bool, true, false, _&&_}
 use Prim.Native.Nat.{ℕ, zero, suc, _+_, _-_, _*_, _/_, _%_}
 use lib.Dec.{leb, ltb}
 use lib.ListN.{length, getD, drop}
+use Rattle.model.specs.Limits.{predicateLimit, factWidth}
 use Rattle.model.specs.Lists.{collect, padded, numbersFrom}
 use Rattle.model.specs.Rules.{Atom, Rule, RuleSet}
 use Rattle.model.specs.Format.{Parsed, good, bad, read, ruleSet, bytesOf}
 
-abbrev pub formLength : ℕ
-formLength = 6850
+abbrev pub groupWidth : ℕ
+groupWidth = 21
+
+abbrev pub ruleWidth : ℕ
+ruleWidth = 106
+
+-- the numbers of all rules
+abbrev pub rulesLength : ℕ
+rulesLength = 6784
 
 abbrev pub aritiesPlace : ℕ
 aritiesPlace = 6786
 
+abbrev pub formLength : ℕ
+formLength = 6850
+
 unfoldable pub atomRow : Atom → List ℕ
-atomRow a = padded 5 (a .predicate ∷ a .variables)
+atomRow a = padded factWidth (a .predicate ∷ a .variables)
 
 unfoldable pub group : List Atom → List ℕ
-group as' = padded 21 (length as' ∷ collect atomRow as')
+group as' = padded groupWidth (length as' ∷ collect atomRow as')
 
 unfoldable pub ruleRow : Rule → List ℕ
-ruleRow r = padded 106 (length (r .head) ∷ (group (r .body) ++ collect group (r .head)))
+ruleRow r = padded ruleWidth (length (r .head) ∷ (group (r .body) ++ collect group (r .head)))
 
 -- the form of a rule set: 0 in every place that is not counted
 unfoldable pub encoded : RuleSet → List ℕ
-encoded b = length (b .arities) ∷ length (b .rules) ∷ (padded 6784 (collect ruleRow (b .rules)) ++ padded 64 (b .arities))
+encoded b = length (b .arities) ∷ length (b .rules) ∷ (padded rulesLength (collect ruleRow (b .rules)) ++ padded predicateLimit (b .arities))
 
 module _ {A : Type 0} where
   -- what f reads at n places, so many numbers apart
@@ -42,17 +53,17 @@ unfoldable pub atomAt : List ℕ → List ℕ → ℕ → Atom
 atomAt form arities at = record { predicate = getD form at 0; variables = numbersFrom form (suc at) (getD arities (getD form at 0) 0) }
 
 unfoldable pub groupAt : List ℕ → List ℕ → ℕ → List Atom
-groupAt form arities at = spaced (atomAt form arities) 5 (getD form at 0) (suc at)
+groupAt form arities at = spaced (atomAt form arities) factWidth (getD form at 0) (suc at)
 
 unfoldable pub ruleAt : List ℕ → List ℕ → ℕ → Rule
-ruleAt form arities at = record { body = groupAt form arities (suc at); head = spaced (groupAt form arities) 21 (getD form at 0) (at + 22) }
+ruleAt form arities at = record { body = groupAt form arities (suc at); head = spaced (groupAt form arities) groupWidth (getD form at 0) (at + 22) }
 
 -- The rule set that a form holds in its counted places, whatever its numbers are and however short it is. Out of range, a number is one
 -- that the reader of the bytes refuses. `encoded (decoded form)` is the form with 0 in every place that is not counted.
 unfoldable pub decoded : List ℕ → RuleSet
 decoded form =
     let arities : List ℕ = numbersFrom form aritiesPlace (getD form 0 0) in
-    record { arities = arities; rules = spaced (ruleAt form arities) 106 (getD form 1 0) 2 }
+    record { arities = arities; rules = spaced (ruleAt form arities) ruleWidth (getD form 1 0) 2 }
 
 -- how many bytes were read or written, or a refusal and its place
 pub data Transfer : Type 0 where
@@ -108,14 +119,14 @@ countedInGroup form at (suc p) = ltb (p / 5) (getD form at 0) && countedInAtom f
 -- its count, and what counts in the body and in so many disjuncts
 unfoldable pub countedInRule : List ℕ → ℕ → ℕ → Bool
 countedInRule form at zero = true
-countedInRule form at (suc p) = leb (p / 21) (getD form at 0) && countedInGroup form (suc at + (p / 21) * 21) (p % 21)
+countedInRule form at (suc p) = leb (p / groupWidth) (getD form at 0) && countedInGroup form (suc at + (p / groupWidth) * groupWidth) (p % groupWidth)
 
 -- both counts, what counts in so many rules, and so many arities
 unfoldable pub counted : List ℕ → ℕ → Bool
 counted form zero = true
 counted form (suc zero) = true
 counted form (suc (suc p)) =
-    elim (ltb p 6784) [
-      | true ↦ ltb (p / 106) (getD form 1 0) && countedInRule form (2 + (p / 106) * 106) (p % 106)
-      | false ↦ ltb (p - 6784) (getD form 0 0)
+    elim (ltb p rulesLength) [
+      | true ↦ ltb (p / ruleWidth) (getD form 1 0) && countedInRule form (2 + (p / ruleWidth) * ruleWidth) (p % ruleWidth)
+      | false ↦ ltb (p - rulesLength) (getD form 0 0)
     ]

@@ -4,6 +4,7 @@ use mathlib.Core.Bool.{Bool, true, false, _&&_}
 use Prim.Native.Nat.{ℕ, zero, suc, _+_, _-_, _*_, _/_, _%_}
 use lib.Dec.{eqb, ltb, leb}
 use lib.ListN.{length, getD}
+use Rattle.model.specs.Limits.{predicateLimit, ruleLimit}
 use Rattle.model.specs.Lists.{any, collect}
 use Rattle.model.specs.Rules.{Atom, Rule, RuleSet, repeated, detached}
 
@@ -63,9 +64,9 @@ rule bs arities i =
 unfoldable pub ruleSet : List ℕ → Parsed RuleSet
 ruleSet bs =
     andThen (byte bs 1 1 3 4) (λ v i.
-    andThen (byte bs 1 64 4 i) (λ n j.
+    andThen (byte bs 1 predicateLimit 4 i) (λ n j.
     andThen (many n (byte bs 1 4 4) j) (λ arities k.
-    andThen (byte bs 0 64 5 k) (λ m l.
+    andThen (byte bs 0 ruleLimit 5 k) (λ m l.
     andThen (many m (rule bs arities) l) (λ rs e.
     elim (eqb e (length bs)) [ true ↦ good (record { arities = arities; rules = rs }) e | false ↦ bad 10 e ])))))
 

@@ -4,6 +4,7 @@ use mathlib.Core.Bool.{Bool, true, false}
 use Prim.Native.Nat.{ℕ, zero, suc}
 use lib.Dec.{eqb}
 use lib.ListN.{getD, take, drop}
+use Rattle.model.specs.Limits.{termWidth}
 use Rattle.model.specs.Lists.{row}
 use Rattle.model.specs.Term.{Term, skolem, terms}
 use Rattle.model.specs.Triggers.{Fact}
@@ -12,7 +13,7 @@ use Rattle.model.specs.Triggers.{Fact}
 unfoldable pub termAt : (ℕ → Term) → ℕ → List ℕ → ℕ → Term
 termAt c zero ts i = c i
 termAt c (suc k) ts i =
-    let r : List ℕ = row 10 i ts in
+    let r : List ℕ = row termWidth i ts in
     elim (eqb (getD r 0 0) 0) [ true ↦ c i | false ↦ skolem (getD r 0 0) (terms (map (termAt c k ts) (take (getD r 1 0) (drop 2 r)))) ]
 
 unfoldable pub factAt : List ℕ → (ℕ → Term) → ℕ → List ℕ → List ℕ → ℕ → Fact

@@ -4,6 +4,7 @@ use mathlib.Core.Bool.{Bool, true, false, _&&_}
 use Prim.Native.Nat.{ℕ, zero, suc, _-_}
 use lib.Dec.{leb}
 use lib.ListN.{length, take, drop, replicate}
+use Rattle.model.specs.Limits.{termWidth, termsFront, factsFront}
 use Rattle.model.specs.Lists.{collect, index, padded}
 use Rattle.model.specs.Term.{Term, Terms, star, constant, apart, fresh, skolem, list, same}
 use Rattle.model.specs.Rules.{RuleSet, entries}
@@ -11,24 +12,17 @@ use Rattle.model.specs.Format.{Parsed, good, bad, read}
 use Rattle.model.specs.Triggers.{Fact}
 use Rattle.model.specs.Stages.{Stage, stage, Verdict, accepted, looping, refused, verdict, cyclicTerms}
 
--- the front parts, in numbers
-abbrev pub termsFront : ℕ
-termsFront = 5130
-
-abbrev pub factsFront : ℕ
-factsFront = 10240
-
 -- the number of a term: where it stands among the stage's terms
 unfoldable pub number : List Term → Term → ℕ
 number ts t = index same t ts
 
 -- the Skolem function (0 for ⋆), its arity, and eight argument numbers
 unfoldable pub termRow : List Term → Term → List ℕ
-termRow ts star = replicate 10 0
-termRow ts (constant c) = replicate 10 0
-termRow ts (apart p) = replicate 10 0
-termRow ts (fresh t v) = replicate 10 0
-termRow ts (skolem f us) = padded 10 (f ∷ length (list us) ∷ map (number ts) (list us))
+termRow ts star = replicate termWidth 0
+termRow ts (constant c) = replicate termWidth 0
+termRow ts (apart p) = replicate termWidth 0
+termRow ts (fresh t v) = replicate termWidth 0
+termRow ts (skolem f us) = padded termWidth (f ∷ length (list us) ∷ map (number ts) (list us))
 
 -- the predicate and four argument numbers
 unfoldable pub factRow : List Term → Fact → List ℕ

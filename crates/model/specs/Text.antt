@@ -4,11 +4,12 @@ use mathlib.Core.Bool.{Bool, true, false}
 use Prim.Native.Nat.{ℕ, zero, suc, _+_, _/_, _%_}
 use lib.Dec.{ltb}
 use lib.ListN.{getD, take, drop, replicate}
+use Rattle.model.specs.Limits.{termWidth, inputLimit, termsFront, factsFront}
 use Rattle.model.specs.Lists.{collect, row}
 use Rattle.model.specs.Rules.{RuleSet}
 use Rattle.model.specs.Format.{Parsed, good, bad, read}
 use Rattle.model.specs.Stages.{Verdict, accepted, looping, refused}
-use Rattle.model.specs.Tables.{Checked, checked, termsFront, factsFront}
+use Rattle.model.specs.Tables.{Checked, checked}
 
 -- at most so many decimal digits, without leading zeros
 unfoldable pub digits : ℕ → ℕ → List ℕ
@@ -49,7 +50,7 @@ loopWord = 108 ∷ 111 ∷ 111 ∷ 112 ∷ []
 
 -- the Skolem function and the arguments of term i
 unfoldable pub termNumbers : List ℕ → ℕ → List ℕ
-termNumbers terms i = let r : List ℕ = row 10 i terms in getD r 0 0 ∷ take (getD r 1 0) (drop 2 r)
+termNumbers terms i = let r : List ℕ = row termWidth i terms in getD r 0 0 ∷ take (getD r 1 0) (drop 2 r)
 
 -- the predicate and the arguments of fact i
 unfoldable pub factNumbers : List ℕ → List ℕ → ℕ → List ℕ
@@ -81,4 +82,4 @@ textOf bytes c = text (declared bytes) (c .verdict) (c .terms) (c .facts)
 
 -- what the program prints: it hands over at most the first 6,856 bytes of its input
 unfoldable pub printed : List ℕ → List ℕ
-printed input = let bytes : List ℕ = take 6856 input in textOf bytes (checked bytes (replicate termsFront 0) (replicate factsFront 0))
+printed input = let bytes : List ℕ = take inputLimit input in textOf bytes (checked bytes (replicate termsFront 0) (replicate factsFront 0))

@@ -4,6 +4,7 @@ use mathlib.Core.List.{List, List·Memᴰ}
 use mathlib.Core.Bool.{Bool, true, false}
 use Prim.Native.Nat.{ℕ, _≤_, _<_}
 use lib.ListN.{length, getD}
+use Rattle.model.specs.Limits.{predicateLimit, ruleLimit}
 use Rattle.model.specs.Lists.{any}
 use Rattle.model.specs.Rules.{Atom, Rule, RuleSet, repeated, detached}
 
@@ -31,7 +32,7 @@ pub record WellFormedRule (arities : List ℕ) (r : Rule) : Type 0 where
 -- refusals 4 to 9
 pub record WellFormed (b : RuleSet) : Type 0 where
   pub some : 1 ≤ length (b .arities)
-  pub few : length (b .arities) ≤ 64
+  pub few : length (b .arities) ≤ predicateLimit
   pub arities : (n : ℕ) → List·Memᴰ n (b .arities) → (1 ≤ n) × (n ≤ 4)
-  pub short : length (b .rules) ≤ 64
+  pub short : length (b .rules) ≤ ruleLimit
   pub rules : (r : Rule) → List·Memᴰ r (b .rules) → WellFormedRule (b .arities) r

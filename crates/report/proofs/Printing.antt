@@ -10,7 +10,8 @@ use lib.ListN.{length, drop}
 use lib.Dec.{leb}
 use borrow.Author.Tests.{le-leb, lt-leb, leb-true}
 use Rattle.model.specs.Form.{done, refusal}
-use Rattle.model.specs.Tables.{Checked, checked, termsFront, factsFront}
+use Rattle.model.specs.Limits.{termsFront, factsFront}
+use Rattle.model.specs.Tables.{Checked, checked}
 use Rattle.model.specs.Text.{text, textOf}
 use Rattle.dmfa.specs.declared.verdict.Verdict.{Verdict}
 use Rattle.dmfa.specs.Verdict.{meant}

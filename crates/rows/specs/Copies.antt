@@ -5,11 +5,12 @@ use mathlib.Core.Bool.{Bool, true, false}
 use Prim.Native.Nat.{ℕ, zero, suc, _-_}
 use lib.Dec.{eqb}
 use lib.ListN.{length, getD, take, drop, replicate}
+use Rattle.model.specs.Limits.{termWidth}
 use Rattle.model.specs.Lists.{padded}
 
 -- a constant, known by its position
 abbrev pub constantRow : List ℕ
-constantRow = replicate 10 0
+constantRow = replicate termWidth 0
 
 -- the arguments of a term's row
 unfoldable pub argumentsIn : List ℕ → List ℕ
@@ -36,7 +37,7 @@ copyTerm (suc k) source i terms =
       | true ↦ terms ++ (constantRow ∷ [])
       | false ↦
           let c : Copies = copyAll (copyTerm k source) (argumentsIn r) (record { numbers = []; terms = terms }) in
-          c .terms ++ (padded 10 (getD r 0 0 ∷ getD r 1 0 ∷ c .numbers) ∷ [])
+          c .terms ++ (padded termWidth (getD r 0 0 ∷ getD r 1 0 ∷ c .numbers) ∷ [])
     ]
 
 -- the copies of a trigger's terms; a term's number bounds how deep it is

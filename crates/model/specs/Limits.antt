@@ -1,0 +1,48 @@
+-- The limits and widths of document 01, each said once. Assumes nothing.
+use Prim.Native.Nat.{ℕ}
+
+-- a rule set ("Book bytes")
+abbrev pub predicateLimit : ℕ
+predicateLimit = 64
+
+abbrev pub ruleLimit : ℕ
+ruleLimit = 64
+
+-- the program hands over one byte more than the longest rule set has
+abbrev pub inputLimit : ℕ
+inputLimit = 6856
+
+-- the records of the tables ("Lent lists"): a fact is a predicate and four terms; a term is a Skolem function, its arity and eight arguments
+abbrev pub factWidth : ℕ
+factWidth = 5
+
+abbrev pub termWidth : ℕ
+termWidth = 10
+
+-- the places of a trigger of a blockable rule, and the facts of its closed test set ("Size of a match")
+abbrev pub placeLimit : ℕ
+placeLimit = 64
+
+abbrev pub testLimit : ℕ
+testLimit = 1024
+
+-- the facts and terms of a stage
+abbrev pub factLimit : ℕ
+factLimit = 2048
+
+abbrev pub termLimit : ℕ
+termLimit = 512
+
+-- one fact more decides a refusal, and what would come after it decides nothing
+abbrev pub testRoom : ℕ
+testRoom = 1025
+
+abbrev pub factRoom : ℕ
+factRoom = 2049
+
+-- the front parts of the caller's tables: the terms of a stage and a cyclic one, and the facts of a stage
+abbrev pub termsFront : ℕ
+termsFront = 5130
+
+abbrev pub factsFront : ℕ
+factsFront = 10240
