@@ -1,4 +1,2 @@
-pub mod Copying
-pub mod Origin
 pub mod Start
 pub mod Outcome

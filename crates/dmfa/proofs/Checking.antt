@@ -13,7 +13,8 @@ use Rattle.model.specs.Limits.{termsFront, factsFront}
 use Rattle.model.specs.Tables.{termRow, factRow, fronted, checked}
 use Rattle.dmfa.specs.declared.verdict.Verdict as declared
 use Rattle.dmfa.specs.Verdict.{meant}
-use Rattle.laws_stages.proofs.Verdict.{Reached, reached-facts-within, reached-terms-within, accepted-says, looping-says}
+use Rattle.laws_stages.specs.Reached.{Reached}
+use Rattle.laws_stages.proofs.Verdict.{reached-facts-within, reached-terms-within, accepted-says, looping-says}
 use Rattle.laws_format.proofs.RoundTrip.{reading-good, reading-bad}
 use Rattle.reader.proofs.Held.{read-holds}
 use Rattle.laws_tables.proofs.Courses.{Fronts, checked-bad}
@@ -21,8 +22,8 @@ use Rattle.rows.specs.Tables.{flat}
 use Rattle.tables.specs.Rows.{rows}
 use Rattle.tables.proofs.Tables.{rows-length}
 use Rattle.form.specs.Places.{Held}
-use Rattle.rows.specs.Judging.{Judged, refusedWith, judged}
-use Rattle.laws_dmfa.proofs.Judging.{shown, facts-count, terms-count, judged-shown, leftBy, checked-is-judged}
+use Rattle.rows.specs.Judging.{Judged, refusedWith, judged, leftBy}
+use Rattle.laws_dmfa.proofs.Judging.{shown, facts-count, terms-count, judged-shown, checked-is-judged}
 use Rattle.dmfa.specs.Judging.{answerOf}
 use Rattle.dmfa.proofs.Fronts.{flat-rows}
 

@@ -2,9 +2,5 @@ pub mod Filling
 pub mod First
 pub mod Fronts
 pub mod Promises
-pub mod TestsFit
-pub mod Tried
-pub mod Tabling
-pub mod Leavable
 pub mod Settling
 pub mod Checking

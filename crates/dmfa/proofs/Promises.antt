@@ -1,24 +1,21 @@
 -- The contract of `check` gives demands 1, 2 and 3. Assumes nothing.
-use mathlib.Core.Path.{_≡_, refl, sym, ap, _∙_, subst}
-use mathlib.Core.List.{List, [], _∷_, List·Memᴰ}
-use Prim.Native.Nat.{ℕ, suc, _-_, _≤_, _<_}
+use mathlib.Core.Path.{_≡_, sym, ap, _∙_, subst}
+use mathlib.Core.List.{List, [], _∷_}
+use Prim.Native.Nat.{ℕ, suc, _-_}
 use native.Mathlib.Omega.{arith}
-use lib.ListN.{length, take}
-use Rattle.model.specs.Term.{Term, star, cyclic}
+use lib.ListN.{take}
+use Rattle.model.specs.Term.{star}
 use Rattle.model.specs.Rules.{RuleSet, entries}
 use Rattle.model.specs.Format.{good, read}
-use Rattle.model.specs.Triggers.{Fact}
 use Rattle.model.specs.Stages.{stage, accepted, looping, refused, verdict, cyclicTerms}
-use Rattle.model.specs.Limits.{termsFront, factsFront}
 use Rattle.model.specs.Tables.{Checked, checked}
 use Rattle.model.specs.Spelled.{termAt}
-use Rattle.model.specs.Published.{Dmfa}
 use Rattle.model.specs.Demand.{Demand3}
 use Rattle.laws_format.proofs.Bytes.{read-well-formed}
-use Rattle.laws_stages.proofs.Verdict.{Looping, looping-says}
-use Rattle.laws_published.proofs.Dmfa.{Witness, accepted-is-dmfa, accepted-is-acyclic, cyclic-is-reached}
+use Rattle.laws_stages.proofs.Verdict.{looping-says}
+use Rattle.laws_published.proofs.Dmfa.{accepted-is-dmfa, accepted-is-acyclic, cyclic-is-reached}
 use Rattle.laws_tables.proofs.Courses.{Course, short, faulty, judged, course, refused-untouched, refused-zeroed}
-use Rattle.laws_tables.proofs.Checked.{Judged, accepted-judged, looping-judged, checked-accepted-spelled, checked-cyclic-shown, checked-kept}
+use Rattle.laws_tables.proofs.Checked.{accepted-judged, looping-judged, checked-accepted-spelled, checked-cyclic-shown, checked-kept}
 use Rattle.laws_demand.proofs.OfCheck.{demand-3-of-check}
 use Rattle.dmfa.specs.Verdict.{meant}
 use Rattle.dmfa.specs.declared.verdict.Verdict.{Verdict}

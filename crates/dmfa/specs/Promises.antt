@@ -1,7 +1,7 @@
 -- What the contract of `check` promises whoever calls it: demands 1, 2 and 3 (document 01), in terms of the answer and of the two tables as the
 -- call left them. Assumes nothing.
 use mathlib.Core.Path.{_≡_}
-use mathlib.Core.Bool.{Bool, true, false}
+use mathlib.Core.Bool.{true, false}
 use mathlib.Core.Logic.{_↔_}
 use mathlib.Core.List.{List, [], List·Memᴰ}
 use Prim.Native.Nat.{ℕ, suc, _≤_, _<_}

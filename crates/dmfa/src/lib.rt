@@ -5,25 +5,50 @@ pub mod judging;
 pub mod verdict;
 
 use crate::caller_tables::fill;
-use crate::judging::Judged;
+use crate::judging::Judgement;
 use crate::judging::judge;
 use crate::verdict::Verdict;
 use reader::Transfer;
 ghost use mathlib.Core.Path.{_≡_};
-ghost use mathlib.Core.Bool.{true, false};
 ghost use Prim.Native.Nat.{_≤_};
 ghost use lib.ListN.{length};
-ghost use Rattle.model.specs.Form.{decoded};
-ghost use Rattle.model.specs.Limits.{termsFront, factsFront};
+ghost use Rattle.model.specs.Limits.{factRoom, termsFront, factsFront};
 ghost use Rattle.model.specs.Tables.{checked};
-ghost use Rattle.dmfa.specs.Verdict.{meant};
 ghost use Rattle.form.specs.Places.{Held};
-ghost use Rattle.form.specs.Functions.{Numbered};
-ghost use Rattle.outputs.specs.Hashed.{Kept};
-ghost use Rattle.rows.specs.Judging.{judged};
-ghost use Rattle.laws_dmfa.proofs.Judging.{leftBy};
+ghost use Rattle.facts.specs.Hashed.{Kept};
+ghost use Rattle.dmfa.specs.Verdict.{meant};
+ghost use Rattle.dmfa.specs.Judging.{smallRoom, Checkable, Leaves, CheckedAs};
 
-// The answer, with room for the stages' terms and for their facts, which are hashed, and the fronts of the caller's two tables. These stay as
+// The caller's tables begin with 513 terms, those of a stage and a cyclic one, and with 2,048 facts.
+const TERMS_FRONT: usize = 5130;
+
+const FACTS_FRONT: usize = 10240;
+
+// A term has ten numbers, a fact five.
+const TERM_WIDTH: usize = 10;
+
+const FACT_WIDTH: usize = 5;
+
+// Room for 1,100 terms; and for 8,708, all that can be made of a stage, and the 64 of an output more.
+const SMALL_ROOM: usize = 11000;
+
+const LARGE_ROOM: usize = 87720;
+
+// Room for 2,049 facts, all that can be made of a stage; behind them a link for each, and 4,096 buckets.
+const FACTS_ROOM: usize = 16390;
+
+// A form, and how many Skolem functions come before each of 64 times four disjuncts.
+const FORM_LENGTH: usize = 6850;
+
+const DISJUNCTS: usize = 256;
+
+// The verdict, or that the room for terms was short.
+pub enum Checked {
+    Answer(Verdict),
+    Short,
+}
+
+// The verdict, with room for the stages' terms and for their facts, which are hashed, and the fronts of the caller's two tables. These stay as
 // they were if the room for terms was short.
 fn check_by(
     form: &[u16],
@@ -32,29 +57,28 @@ fn check_by(
     hashed: &mut [u16],
     terms: &mut [u16],
     facts: &mut [u16],
-) -> Judged
-    requires { ⌜ Held (now form) × Numbered (now form) (now before) × (5130 ≤ length (now room)) × Kept (now hashed) 0 2049 × (termsFront ≤ length (now terms)) × (factsFront ≤ length (now facts)) ⌝ }
-    ensures { λ r. ⌜ (r .short ≡ false → record { verdict = meant (r .verdict); terms = now (terms .exit); facts = now (facts .exit) } ≡ leftBy (judged (decoded (now (form .entry)))) (now (terms .entry)) (now (facts .entry))) × (r .short ≡ true → (now (terms .exit) ≡ now (terms .entry)) × (now (facts .exit) ≡ now (facts .entry))) × (87720 ≤ length (now (room .entry)) → r .short ≡ false) ⌝ }
+) -> Checked
+    requires { ⌜ Checkable (now form) (now before) (now terms) (now facts) × (termsFront ≤ length (now room)) × Kept (now hashed) 0 factRoom ⌝ }
+    ensures { λ r. ⌜ CheckedAs (now (form .entry)) (length (now (room .entry))) (now (terms .entry)) (now (facts .entry)) r (now (terms .exit)) (now (facts .exit)) ⌝ }
 {
-    let answer = judge(form, before, &mut *room, &mut *hashed);
-    if answer.short {
-        return answer;
+    let judgement = judge(form, before, &mut *room, &mut *hashed);
+    match judgement {
+        Judgement::Answer(verdict, n, m) => {
+            fill(&*room, n * TERM_WIDTH, TERMS_FRONT, &mut *terms);
+            fill(&*hashed, m * FACT_WIDTH, FACTS_FRONT, &mut *facts);
+            Checked::Answer(verdict)
+        }
+        Judgement::Short => Checked::Short,
     }
-    let n = answer.terms;
-    let m = answer.facts;
-    fill(&*room, n * 10, 5130, &mut *terms);
-    fill(&*hashed, m * 5, 10240, &mut *facts);
-    answer
 }
 
-// The answer if 1,100 terms are room enough, as they are for nearly every rule set: less is to be cleared.
-fn check_small(form: &[u16], before: &[u16], terms: &mut [u16], facts: &mut [u16]) -> Judged
-    requires { ⌜ Held (now form) × Numbered (now form) (now before) × (termsFront ≤ length (now terms)) × (factsFront ≤ length (now facts)) ⌝ }
-    ensures { λ r. ⌜ (r .short ≡ false → record { verdict = meant (r .verdict); terms = now (terms .exit); facts = now (facts .exit) } ≡ leftBy (judged (decoded (now (form .entry)))) (now (terms .entry)) (now (facts .entry))) × (r .short ≡ true → (now (terms .exit) ≡ now (terms .entry)) × (now (facts .exit) ≡ now (facts .entry))) ⌝ }
+// The verdict if 1,100 terms are room enough, as they are for nearly every rule set: less is to be cleared.
+fn check_small(form: &[u16], before: &[u16], terms: &mut [u16], facts: &mut [u16]) -> Checked
+    requires { ⌜ Checkable (now form) (now before) (now terms) (now facts) ⌝ }
+    ensures { λ r. ⌜ CheckedAs (now (form .entry)) smallRoom (now (terms .entry)) (now (facts .entry)) r (now (terms .exit)) (now (facts .exit)) ⌝ }
 {
-    // room for 2,049 facts, all that can be made of a stage; behind them a link for each, and 4,096 buckets
-    let mut stage_terms = [0u16; 11000];
-    let mut stage_facts = [0u16; 16390];
+    let mut stage_terms = [0u16; SMALL_ROOM];
+    let mut stage_facts = [0u16; FACTS_ROOM];
     check_by(
         form,
         before,
@@ -65,13 +89,13 @@ fn check_small(form: &[u16], before: &[u16], terms: &mut [u16], facts: &mut [u16
     )
 }
 
-// The answer with room for 8,708 terms, all that can be made of a stage, and 64 more.
+// The verdict with room for all terms that can be made of a stage, and for an output more.
 fn check_large(form: &[u16], before: &[u16], terms: &mut [u16], facts: &mut [u16]) -> Verdict
-    requires { ⌜ Held (now form) × Numbered (now form) (now before) × (termsFront ≤ length (now terms)) × (factsFront ≤ length (now facts)) ⌝ }
-    ensures { λ r. ⌜ record { verdict = meant r; terms = now (terms .exit); facts = now (facts .exit) } ≡ leftBy (judged (decoded (now (form .entry)))) (now (terms .entry)) (now (facts .entry)) ⌝ }
+    requires { ⌜ Checkable (now form) (now before) (now terms) (now facts) ⌝ }
+    ensures { λ r. ⌜ Leaves (now (form .entry)) (now (terms .entry)) (now (facts .entry)) r (now (terms .exit)) (now (facts .exit)) ⌝ }
 {
-    let mut stage_terms = [0u16; 87720];
-    let mut stage_facts = [0u16; 16390];
+    let mut stage_terms = [0u16; LARGE_ROOM];
+    let mut stage_facts = [0u16; FACTS_ROOM];
     let large = check_by(
         form,
         before,
@@ -80,34 +104,38 @@ fn check_large(form: &[u16], before: &[u16], terms: &mut [u16], facts: &mut [u16
         &mut *terms,
         &mut *facts,
     );
-    large.verdict
+    match large {
+        Checked::Answer(verdict) => verdict,
+        // never, by the contract of check_by
+        Checked::Short => Verdict::Refused(14, 0),
+    }
 }
 
 // The verdict on the rule set of a form, and the fronts of the caller's two tables.
 fn check_form(form: &[u16], terms: &mut [u16], facts: &mut [u16]) -> Verdict
     requires { ⌜ Held (now form) × (termsFront ≤ length (now terms)) × (factsFront ≤ length (now facts)) ⌝ }
-    ensures { λ r. ⌜ record { verdict = meant r; terms = now (terms .exit); facts = now (facts .exit) } ≡ leftBy (judged (decoded (now (form .entry)))) (now (terms .entry)) (now (facts .entry)) ⌝ }
+    ensures { λ r. ⌜ Leaves (now (form .entry)) (now (terms .entry)) (now (facts .entry)) r (now (terms .exit)) (now (facts .exit)) ⌝ }
 {
-    let mut before = [0u16; 256];
-    form::functions::number_functions(form, &mut before[..]);
+    let mut before = [0u16; DISJUNCTS];
+    form_functions::number_functions(form, &mut before[..]);
     let small = check_small(form, &before[..], &mut *terms, &mut *facts);
-    if small.short {
-        return check_large(form, &before[..], &mut *terms, &mut *facts);
+    match small {
+        Checked::Answer(verdict) => verdict,
+        Checked::Short => check_large(form, &before[..], &mut *terms, &mut *facts),
     }
-    small.verdict
 }
 
 // The verdict on a rule set given as bytes, and the caller's two tables.
 pub fn check(bytes: &[u8], terms: &mut [u16], facts: &mut [u16]) -> Verdict
     ensures { λ r. ⌜ checked (now (bytes .entry)) (now (terms .entry)) (now (facts .entry)) ≡ record { verdict = meant r; terms = now (terms .exit); facts = now (facts .exit) } ⌝ }
 {
-    if terms.len() < 5130 {
+    if terms.len() < TERMS_FRONT {
         return Verdict::Refused(1, 0);
     }
-    if facts.len() < 10240 {
+    if facts.len() < FACTS_FRONT {
         return Verdict::Refused(1, 0);
     }
-    let mut form = [0u16; 6850];
+    let mut form = [0u16; FORM_LENGTH];
     let read = reader::read(bytes, &mut form[..]);
     match read {
         Transfer::Done(_) => check_form(&form[..], &mut *terms, &mut *facts),

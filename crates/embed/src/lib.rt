@@ -2,6 +2,8 @@
 // call returns and leaves behind with the definitions, by the numbers of specs/Numbers.
 use dmfa::verdict::Verdict;
 use reader::Transfer;
+use report::FACTS_FRONT;
+use report::TERMS_FRONT;
 ghost use mathlib.Core.Path.{_≡_};
 ghost use lib.ListN.{replicate};
 ghost use Rattle.model.specs.Form.{reading, writing};
@@ -77,8 +79,8 @@ pub extern "C" fn rulfjen_write(form: &[u16], book: &mut [u8], value: &mut usize
 pub extern "C" fn rulfjen_print(book: &[u8], text: &mut [u8], value: &mut usize) -> usize
     ensures { λ r. ⌜ ofPrinting (printing (now (book .entry)) (replicate termsFront 0) (replicate factsFront 0) (now (text .entry))) ≡ record { number = r; value = now (value .exit); list = now (text .exit) } ⌝ }
 {
-    let mut terms = [0u16; 5130];
-    let mut facts = [0u16; 10240];
+    let mut terms = [0u16; TERMS_FRONT];
+    let mut facts = [0u16; FACTS_FRONT];
     let answer = report::print(book, &mut terms, &mut facts, &mut *text);
     transfer(answer, &mut *value)
 }

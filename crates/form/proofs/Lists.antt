@@ -1,12 +1,12 @@
 -- Laws of lists that are read row by row, and of rows that are filled from the front. Assumes nothing.
 use mathlib.Core.Path.{_≡_, refl, sym, ap, _∙_}
-use mathlib.Core.List.{List, [], _∷_, _++_, map, append-assoc}
+use mathlib.Core.List.{List, [], _∷_, _++_, append-assoc}
 use mathlib.Core.Bool.{Bool, true, false, _||_}
 use Prim.Native.Nat.{ℕ, zero, suc, _+_, _-_, _*_, _≤_, _<_}
 use native.Mathlib.Omega.{arith}
 use native.Mathlib.Nat.{zero-mul, suc-mul}
 use native.Mathlib.Numerals.{add-one}
-use lib.ListN.{length, getD, set, drop, replicate, length-append, length-replicate, drop-of-length-le}
+use lib.ListN.{length, getD, set, drop, replicate, length-append, drop-of-length-le}
 use lib.Seq.{set-at, drop-cons}
 use Rattle.model.specs.Lists.{any, padded}
 use Rattle.model.specs.Form.{spaced}
@@ -44,10 +44,6 @@ module _ {A : Type 0} where
       ∙ sym (append-assoc xs (x ∷ []) (replicate (n - suc k) z))
       ∙ ap (λ (j : ℕ). (xs ++ (x ∷ [])) ++ replicate j z) (sym l)
 
-  pub length-filled : (n : ℕ) (z : A) (xs : List A) → length xs ≤ n → length (filled n z xs) ≡ n
-  unfolding filled
-  length-filled n z xs h = omega (arith, length-append xs (replicate (n - length xs) z), length-replicate (n - length xs) z)
-
   -- a search through a list, element by element
 
   pub any-found : (p : A → Bool) (xs : List A) (i : ℕ) (d : A) → i < length xs → p (getD xs i d) ≡ true → any p (drop i xs) ≡ true
@@ -66,9 +62,3 @@ module _ {A : Type 0} where
 pub padded-filled : (n : ℕ) (xs : List ℕ) → padded n xs ≡ filled n 0 xs
 unfolding padded filled
 padded-filled n xs = refl
-
-module _ {A B : Type 0} where
-  pub map-spaced : (g : A → B) (f : ℕ → A) (width n at : ℕ) → map g (spaced f width n at) ≡ spaced (λ (p : ℕ). g (f p)) width n at
-  unfolding spaced
-  map-spaced g f width zero at = refl
-  map-spaced g f width (suc n) at = ap (λ (ys : List B). g (f at) ∷ ys) (map-spaced g f width n (at + width))

@@ -1,5 +1,5 @@
 -- Where a form has its counts, arities, rules, disjuncts and atoms; a well-formed form has well-formed ones there. Assumes nothing.
-use mathlib.Core.Path.{_≡_, refl, ap, _∙_, subst}
+use mathlib.Core.Path.{_≡_, refl, sym, ap, _∙_, subst}
 use mathlib.Core.List.{List, []}
 use Prim.Native.Nat.{ℕ, suc, _+_, _*_, _≤_, _<_}
 use native.Mathlib.Omega.{arith}
@@ -7,63 +7,61 @@ use lib.ListN.{length, getD}
 use Rattle.model.specs.Lists.{numbersFrom}
 use Rattle.model.specs.Rules.{Atom, Rule}
 use Rattle.model.specs.WellFormed.{WellFormedAtom, WellFormedAtoms, WellFormedRule}
-use Rattle.model.specs.Form.{spaced, decoded, atomAt, groupAt, ruleAt}
+use Rattle.model.specs.Limits.{predicateLimit, ruleLimit, factWidth}
+use Rattle.model.specs.Form.{groupWidth, ruleWidth, aritiesPlace, spaced, decoded, atomAt, groupAt, ruleAt}
 use Rattle.laws.proofs.Lists.{getD-mem}
 use Rattle.laws.proofs.Places.{length-numbersFrom, getD-numbersFrom, length-spaced}
-use Rattle.form.specs.Places.{Held, aritiesOf, rulesOf, ruleOf, disjunctOf, atomOf, groupOf, AtomPlace, GroupPlace}
+use Rattle.form.specs.Places.{rulePlace, bodyPlace, disjunctPlace, atomPlace, arityPlace, Held, aritiesOf, rulesOf, ruleOf, disjunctOf, atomOf, groupOf, AtomAt, GroupAt}
 use Rattle.form.proofs.Lists.{getD-spaced}
 
-abbrev pub rulePlace : ℕ → ℕ
-rulePlace i = 2 + i * 106
-
-abbrev pub disjunctPlace : ℕ → ℕ → ℕ
-disjunctPlace i d = 24 + i * 106 + d * 21
+abbrev pub noAtom : Atom
+noAtom = record { predicate = 0; variables = [] }
 
 module _ (form : List ℕ) where
   pub count-predicates : length (aritiesOf form) ≡ getD form 0 0
   unfolding aritiesOf decoded
-  count-predicates = length-numbersFrom form 6786 (getD form 0 0)
+  count-predicates = length-numbersFrom form aritiesPlace (getD form 0 0)
 
-  pub arity-place : (p : ℕ) → p < length (aritiesOf form) → getD (aritiesOf form) p 0 ≡ getD form (6786 + p) 0
+  pub arity-place : (p : ℕ) → p < length (aritiesOf form) → getD (aritiesOf form) p 0 ≡ getD form (arityPlace p) 0
   unfolding aritiesOf decoded
-  arity-place p h = getD-numbersFrom form 6786 (getD form 0 0) p (omega (arith, length-numbersFrom form 6786 (getD form 0 0)))
+  arity-place p h = getD-numbersFrom form aritiesPlace (getD form 0 0) p (omega (arith, length-numbersFrom form aritiesPlace (getD form 0 0)))
 
   pub count-rules : length (rulesOf form) ≡ getD form 1 0
   unfolding rulesOf decoded
-  count-rules = length-spaced (ruleAt form (numbersFrom form 6786 (getD form 0 0))) 106 (getD form 1 0) 2
+  count-rules = length-spaced (ruleAt form (numbersFrom form aritiesPlace (getD form 0 0))) ruleWidth (getD form 1 0) 2
 
   pub rule-place : (i : ℕ) → i < length (rulesOf form) → ruleOf form i ≡ ruleAt form (aritiesOf form) (rulePlace i)
   unfolding ruleOf rulesOf aritiesOf decoded
   rule-place i h =
-      getD-spaced (ruleAt form (numbersFrom form 6786 (getD form 0 0))) 106 (getD form 1 0) 2 i (record { body = []; head = [] }) (omega (arith, count-rules))
+      getD-spaced (ruleAt form (numbersFrom form aritiesPlace (getD form 0 0))) ruleWidth (getD form 1 0) 2 i (record { body = []; head = [] }) (omega (arith, count-rules))
 
-  pub body-place : (i : ℕ) → i < length (rulesOf form) → ruleOf form i .body ≡ groupOf form (3 + i * 106)
+  pub body-place : (i : ℕ) → i < length (rulesOf form) → ruleOf form i .body ≡ groupOf form (bodyPlace i)
   unfolding ruleAt groupOf
   body-place i h =
-      let e : suc (rulePlace i) ≡ 3 + i * 106 = omega arith in
+      let e : suc (rulePlace i) ≡ bodyPlace i = omega arith in
       ap (λ (r : Rule). r .body) (rule-place i h) ∙ ap (groupAt form (aritiesOf form)) e
 
-  pub head-place : (i : ℕ) → i < length (rulesOf form) → ruleOf form i .head ≡ spaced (groupOf form) 21 (getD form (rulePlace i) 0) (rulePlace i + 22)
+  pub head-place : (i : ℕ) → i < length (rulesOf form) → ruleOf form i .head ≡ spaced (groupOf form) groupWidth (getD form (rulePlace i) 0) (rulePlace i + 22)
   unfolding ruleAt groupOf
   head-place i h = ap (λ (r : Rule). r .head) (rule-place i h)
 
   pub count-disjuncts : (i : ℕ) → i < length (rulesOf form) → length (ruleOf form i .head) ≡ getD form (rulePlace i) 0
-  count-disjuncts i h = ap length (head-place i h) ∙ length-spaced (groupOf form) 21 (getD form (rulePlace i) 0) (rulePlace i + 22)
+  count-disjuncts i h = ap length (head-place i h) ∙ length-spaced (groupOf form) groupWidth (getD form (rulePlace i) 0) (rulePlace i + 22)
 
   pub disjunct-place : (i d : ℕ) → i < length (rulesOf form) → d < length (ruleOf form i .head) → disjunctOf form i d ≡ groupOf form (disjunctPlace i d)
   unfolding disjunctOf
   disjunct-place i d h k =
-      let e : rulePlace i + 22 + d * 21 ≡ disjunctPlace i d = omega arith in
+      let e : rulePlace i + 22 + d * groupWidth ≡ disjunctPlace i d = omega arith in
       ap (λ (ds : List (List Atom)). getD ds d []) (head-place i h)
-      ∙ getD-spaced (groupOf form) 21 (getD form (rulePlace i) 0) (rulePlace i + 22) d [] (omega (arith, count-disjuncts i h))
+      ∙ getD-spaced (groupOf form) groupWidth (getD form (rulePlace i) 0) (rulePlace i + 22) d [] (omega (arith, count-disjuncts i h))
       ∙ ap (groupOf form) e
 
-  pub atoms-place : (at : ℕ) → groupOf form at ≡ spaced (atomOf form) 5 (getD form at 0) (suc at)
+  pub atoms-place : (at : ℕ) → groupOf form at ≡ spaced (atomOf form) factWidth (getD form at 0) (suc at)
   unfolding groupOf groupAt atomOf
   atoms-place at = refl
 
   pub count-atoms : (at : ℕ) → length (groupOf form at) ≡ getD form at 0
-  count-atoms at = ap length (atoms-place at) ∙ length-spaced (atomOf form) 5 (getD form at 0) (suc at)
+  count-atoms at = ap length (atoms-place at) ∙ length-spaced (atomOf form) factWidth (getD form at 0) (suc at)
 
   pub variables-place : (at : ℕ) → atomOf form at .variables ≡ numbersFrom form (suc at) (getD (aritiesOf form) (getD form at 0) 0)
   unfolding atomOf atomAt
@@ -83,11 +81,11 @@ module _ (form : List ℕ) where
     unfolding aritiesOf
     arity-range p l = h .sound .arities (getD (aritiesOf form) p 0) (getD-mem (aritiesOf form) p 0 l)
 
-    pub few-predicates : length (aritiesOf form) ≤ 64
+    pub few-predicates : length (aritiesOf form) ≤ predicateLimit
     unfolding aritiesOf
     few-predicates = h .sound .few
 
-    pub few-rules : length (rulesOf form) ≤ 64
+    pub few-rules : length (rulesOf form) ≤ ruleLimit
     unfolding rulesOf
     few-rules = h .sound .short
 
@@ -102,7 +100,7 @@ module _ (form : List ℕ) where
     unfolding disjunctOf
     disjunct-well-formed i d l m = rule-well-formed i l .each (disjunctOf form i d) (getD-mem (ruleOf form i .head) d [] m)
 
-    pub body-group : (i : ℕ) → i < length (rulesOf form) → GroupPlace form (3 + i * 106)
+    pub body-group : (i : ℕ) → i < length (rulesOf form) → GroupAt form (bodyPlace i)
     body-group i l =
         record {
           held = h;
@@ -110,7 +108,7 @@ module _ (form : List ℕ) where
           atoms = subst (WellFormedAtoms (aritiesOf form)) (body-place i l) (rule-well-formed i l .body);
         }
 
-    pub disjunct-group : (i d : ℕ) → i < length (rulesOf form) → d < length (ruleOf form i .head) → GroupPlace form (disjunctPlace i d)
+    pub disjunct-group : (i d : ℕ) → i < length (rulesOf form) → d < length (ruleOf form i .head) → GroupAt form (disjunctPlace i d)
     disjunct-group i d l m =
         record {
           held = h;
@@ -120,25 +118,17 @@ module _ (form : List ℕ) where
 
   -- the parts of a well-formed group and atom
 
-  pub few-atoms : (at : ℕ) → GroupPlace form at → getD form at 0 ≤ 4
+  pub few-atoms : (at : ℕ) → GroupAt form at → getD form at 0 ≤ 4
   few-atoms at g = let l = g .atoms .few in omega (arith, count-atoms at)
 
-  pub group-atom : (at k : ℕ) → GroupPlace form at → k < getD form at 0 → AtomPlace form (at + 1 + k * 5)
-  group-atom at k g l =
-      let few = few-atoms at g in
-      let room = g .room in
-      let a : Atom = record { predicate = 0; variables = [] } in
-      let e : suc at + k * 5 ≡ at + 1 + k * 5 = omega arith in
-      let p : getD (groupOf form at) k a ≡ atomOf form (at + 1 + k * 5) =
-      ap (λ (as' : List Atom). getD as' k a) (atoms-place at) ∙ getD-spaced (atomOf form) 5 (getD form at 0) (suc at) k a l ∙ ap (atomOf form) e
-      in
-      record {
-        held = g .held;
-        room = omega arith;
-        atom = subst (WellFormedAtom (aritiesOf form)) p (g .atoms .each (getD (groupOf form at) k a) (getD-mem (groupOf form at) k a (omega (arith, count-atoms at))));
-      }
+  pub atom-place : (at k : ℕ) → k < length (groupOf form at) → getD (groupOf form at) k noAtom ≡ atomOf form (atomPlace at k)
+  atom-place at k l =
+      let e : suc at + k * factWidth ≡ atomPlace at k = omega arith in
+      ap (λ (as' : List Atom). getD as' k noAtom) (atoms-place at)
+      ∙ getD-spaced (atomOf form) factWidth (getD form at 0) (suc at) k noAtom (omega (arith, count-atoms at))
+      ∙ ap (atomOf form) e
 
-  module _ (at : ℕ) (g : AtomPlace form at) where
+  module _ (at : ℕ) (g : AtomAt form at) where
     pub atom-declared : getD form at 0 < length (aritiesOf form)
     unfolding atomOf atomAt
     atom-declared = g .atom .declared
@@ -156,3 +146,43 @@ module _ (form : List ℕ) where
         in
         let h = g .atom .range (getD (atomOf form at .variables) k 0) (getD-mem (atomOf form at .variables) k 0 l) in
         omega arith
+
+-- The laws that the functions cite, over a place that the code has computed, and over what is read there: the body and a disjunct of a rule,
+-- and an atom of a group.
+
+module _ {form : List ℕ} {i : ℕ} (r : Held form × (i < length (rulesOf form))) where
+  pub rule-below : i < ruleLimit
+  rule-below = omega (arith, few-rules form (r .0))
+
+  pub body-stands : {at : ℕ} → at ≡ bodyPlace i → GroupAt form at
+  body-stands e = subst (GroupAt form) (sym e) (body-group form (r .0) i (r .1))
+
+  pub body-read : {A : Type 0} (g : List Atom → A) {x : A} {at : ℕ} → at ≡ bodyPlace i → x ≡ g (groupOf form at) → x ≡ g (ruleOf form i .body)
+  body-read g e x = x ∙ ap (λ (p : ℕ). g (groupOf form p)) e ∙ ap g (sym (body-place form i (r .1)))
+
+module _ {form : List ℕ} {i d : ℕ} (r : Held form × (i < length (rulesOf form)) × (d < length (ruleOf form i .head))) where
+  pub disjunct-below : (i < ruleLimit) × (d < 4)
+  disjunct-below = (omega (arith, few-rules form (r .0)), omega (arith, few-disjuncts form (r .0) i (r .1)))
+
+  pub disjunct-stands : {at : ℕ} → at ≡ disjunctPlace i d → GroupAt form at
+  disjunct-stands e = subst (GroupAt form) (sym e) (disjunct-group form (r .0) i d (r .1) (r .2))
+
+  pub disjunct-read : {A : Type 0} (g : List Atom → A) {x : A} {at : ℕ} → at ≡ disjunctPlace i d → x ≡ g (groupOf form at) → x ≡ g (disjunctOf form i d)
+  disjunct-read g e x = x ∙ ap (λ (p : ℕ). g (groupOf form p)) e ∙ ap g (sym (disjunct-place form i d (r .1) (r .2)))
+
+module _ {form : List ℕ} {at : ℕ} (r : GroupAt form at) (k : ℕ) (l : k < length (groupOf form at)) {p : ℕ} (e : p ≡ atomPlace at k) where
+  atom-same : getD (groupOf form at) k noAtom ≡ atomOf form p
+  atom-same = atom-place form at k l ∙ ap (atomOf form) (sym e)
+
+  pub atom-stands : AtomAt form p
+  atom-stands =
+      let few = few-atoms form at r in
+      let room = r .room in
+      record {
+        held = r .held;
+        room = omega (arith, count-atoms form at);
+        atom = subst (WellFormedAtom (aritiesOf form)) atom-same (r .atoms .each (getD (groupOf form at) k noAtom) (getD-mem (groupOf form at) k noAtom l));
+      }
+
+  pub atom-read : {A : Type 0} (g : Atom → A) {x : A} → x ≡ g (atomOf form p) → x ≡ g (getD (groupOf form at) k noAtom)
+  atom-read g x = x ∙ ap g (sym atom-same)

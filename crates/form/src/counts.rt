@@ -1,8 +1,14 @@
 // The counts and arities of a form. Contracts: specs/Places.
+use crate::layout::PREDICATE_COUNT;
+use crate::layout::RULE_COUNT;
+use crate::layout::arity_place;
+use crate::layout::body_place;
+use crate::layout::disjunct_place;
+use crate::layout::rule_place;
 ghost use mathlib.Core.Path.{_≡_};
 ghost use Prim.Native.Nat.{_<_};
 ghost use lib.ListN.{length, getD};
-ghost use Rattle.form.specs.Places.{Held, aritiesOf, rulesOf, ruleOf, disjunctOf};
+ghost use Rattle.form.specs.Places.{Held, GroupAt, groupOf, aritiesOf, rulesOf, ruleOf, disjunctOf};
 
 pub fn wide(x: u16) -> usize
     ensures { λ r. ⌜ r ≡ x ⌝ }
@@ -14,14 +20,14 @@ pub fn predicate_count(form: &[u16]) -> usize
     requires { ⌜ Held (now form) ⌝ }
     ensures { λ r. ⌜ r ≡ length (aritiesOf (now (form .entry))) ⌝ }
 {
-    wide(form[0])
+    wide(form[PREDICATE_COUNT])
 }
 
 pub fn rule_count(form: &[u16]) -> usize
     requires { ⌜ Held (now form) ⌝ }
     ensures { λ r. ⌜ r ≡ length (rulesOf (now (form .entry))) ⌝ }
 {
-    wide(form[1])
+    wide(form[RULE_COUNT])
 }
 
 // The arity of predicate `p`.
@@ -29,7 +35,16 @@ pub fn arity(form: &[u16], p: usize) -> usize
     requires { ⌜ Held (now form) × (p < length (aritiesOf (now form))) ⌝ }
     ensures { λ r. ⌜ r ≡ getD (aritiesOf (now (form .entry))) p 0 ⌝ }
 {
-    wide(form[6786 + p])
+    let at = arity_place(p);
+    wide(form[at])
+}
+
+// How many atoms the group at a place has.
+pub fn group_count(form: &[u16], at: usize) -> usize
+    requires { ⌜ GroupAt (now form) at ⌝ }
+    ensures { λ r. ⌜ r ≡ length (groupOf (now (form .entry)) at) ⌝ }
+{
+    wide(form[at])
 }
 
 // How many body atoms rule `i` has.
@@ -37,7 +52,7 @@ pub fn body_count(form: &[u16], i: usize) -> usize
     requires { ⌜ Held (now form) × (i < length (rulesOf (now form))) ⌝ }
     ensures { λ r. ⌜ r ≡ length (ruleOf (now (form .entry)) i .body) ⌝ }
 {
-    wide(form[3 + i * 106])
+    group_count(form, body_place(i))
 }
 
 // How many disjuncts rule `i` has.
@@ -45,7 +60,8 @@ pub fn disjunct_count(form: &[u16], i: usize) -> usize
     requires { ⌜ Held (now form) × (i < length (rulesOf (now form))) ⌝ }
     ensures { λ r. ⌜ r ≡ length (ruleOf (now (form .entry)) i .head) ⌝ }
 {
-    wide(form[2 + i * 106])
+    let at = rule_place(i);
+    wide(form[at])
 }
 
 // How many atoms disjunct `d` of rule `i` has.
@@ -53,5 +69,5 @@ pub fn atom_count(form: &[u16], i: usize, d: usize) -> usize
     requires { ⌜ Held (now form) × (i < length (rulesOf (now form))) × (d < length (ruleOf (now form) i .head)) ⌝ }
     ensures { λ r. ⌜ r ≡ length (disjunctOf (now (form .entry)) i d) ⌝ }
 {
-    wide(form[24 + i * 106 + d * 21])
+    group_count(form, disjunct_place(i, d))
 }

@@ -53,3 +53,7 @@ pub both-ways : (a b : Bool) → (a ≡ true → b ≡ true) → (b ≡ true →
 both-ways true b f g = sym (f refl)
 both-ways false true f g = g refl
 both-ways false false f g = refl
+
+pub or-none : (a b : Bool) → b ≡ false → a || b ≡ a
+or-none true b e = refl
+or-none false b e = e

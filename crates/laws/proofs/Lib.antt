@@ -1,9 +1,15 @@
 pub mod Bools
 pub mod Lists
+pub mod Extending
+pub mod Indexes
+pub mod Rising
 pub mod Prefixes
 pub mod Terms
 pub mod Facts
 pub mod Rules
+pub mod Owners
+pub mod Counting
+pub mod Distinct
 pub mod WellFormed
 pub mod Places
 pub mod Triggers

@@ -1,15 +1,16 @@
 -- Laws of the list functions that the definitions share: which elements they have, in which order, and that none comes twice.
 -- Assumes nothing.
 use mathlib.Core.Path.{_≡_, refl, sym, ap, _∙_, subst, ap₂}
-use mathlib.Core.Bool.{Bool, true, false, _||_, or-assoc}
+use mathlib.Core.Bool.{Bool, true, false, _&&_, _||_, or-assoc}
 use mathlib.Core.List.{List, [], _∷_, _++_, map, append-assoc, List·Memᴰ, List·Memᴰ·head, List·Memᴰ·tail, List·Memᴰ·cases-cons, List·Memᴰ·append-cases, List·Memᴰ·not-nil, Memᴰ·append-left, Memᴰ·append-right, Memᴰ·cast, List·Memᴰ·eq-of-singleton}
 use mathlib.Core.Logic.{_⊎_, inl, inr, ⊎-elim}
 use Prim.Native.Nat.{ℕ, zero, suc, _+_, _≤_, _<_}
 use native.Mathlib.Omega.{arith}
 use lib.Dec.{eqb}
-use lib.ListN.{length, getD, length-append}
+use lib.ListN.{length, getD, take, drop, replicate, length-append, take-append-drop}
 use borrow.Author.Tests.{eqb-true, eq-eqb}
 use Rattle.model.specs.Lists.{all, any, keep, extend, index, collect, member}
+use Rattle.laws.specs.Lists.{Distinct, none, one}
 use Rattle.laws.proofs.Bools.{case, not-both, and-true, true-and, or-true, or-left, or-right, is-false}
 
 module _ {ℓ} {A : Type ℓ} where
@@ -118,7 +119,71 @@ module _ {ℓ} {A : Type ℓ} where
           keep-yes p x (xs ++ ys) e ∙ ap (λ (l : List A). x ∷ l) below ∙ ap (λ (l : List A). l ++ keep p ys) (sym (keep-yes p x xs e))
       go below (inr e) = keep-no p x (xs ++ ys) e ∙ below ∙ ap (λ (l : List A). l ++ keep p ys) (sym (keep-no p x xs e))
 
+  -- nothing passes
+  pub keep-nothing : (p : A → Bool) (xs : List A) → ((x : A) → List·Memᴰ x xs → p x ≡ false) → keep p xs ≡ []
+  unfolding keep
+  keep-nothing p [] h = refl
+  keep-nothing p (x ∷ xs) h = keep-no p x xs (h x (List·Memᴰ·head refl)) ∙ keep-nothing p xs (λ y m. h y (List·Memᴰ·tail m))
+
+  pub keep-none : (p : A → Bool) (xs : List A) → ((x : A) → p x ≡ false) → keep p xs ≡ []
+  keep-none p xs h = keep-nothing p xs (λ x m. h x)
+
+  -- everything passes
+  pub keep-whole : (p : A → Bool) (xs : List A) → ((x : A) → p x ≡ true) → keep p xs ≡ xs
+  unfolding keep
+  keep-whole p [] h = refl
+  keep-whole p (x ∷ xs) h = keep-yes p x xs (h x) ∙ ap (λ (ys : List A). x ∷ ys) (keep-whole p xs h)
+
+  -- what is kept of what is kept
+  pub keep-keep : (p q : A → Bool) (xs : List A) → keep p (keep q xs) ≡ keep (λ (x : A). q x && p x) xs
+  unfolding keep
+  keep-keep p q [] = refl
+  keep-keep p q (x ∷ xs) = go (case (q x)) (case (p x)) (keep-keep p q xs)
+    where
+      both : A → Bool
+      both y = q y && p y
+
+      go : (q x ≡ true) ⊎ (q x ≡ false) → (p x ≡ true) ⊎ (p x ≡ false) → keep p (keep q xs) ≡ keep both xs → keep p (keep q (x ∷ xs)) ≡ keep both (x ∷ xs)
+      go (inl e) (inl f) below =
+          ap (keep p) (keep-yes q x xs e)
+          ∙ keep-yes p x (keep q xs) f
+          ∙ ap (λ (ys : List A). x ∷ ys) below
+          ∙ sym (keep-yes both x xs (ap (λ (b : Bool). b && p x) e ∙ f))
+      go (inl e) (inr f) below =
+          ap (keep p) (keep-yes q x xs e) ∙ keep-no p x (keep q xs) f ∙ below ∙ sym (keep-no both x xs (ap (λ (b : Bool). b && p x) e ∙ f))
+      go (inr e) k below = ap (keep p) (keep-no q x xs e) ∙ below ∙ sym (keep-no both x xs (ap (λ (b : Bool). b && p x) e))
+
+  pub all-agree : (p q : A → Bool) (xs : List A) → ((x : A) → List·Memᴰ x xs → p x ≡ q x) → all p xs ≡ all q xs
+  unfolding all
+  all-agree p q [] h = refl
+  all-agree p q (x ∷ xs) h = ap₂ (λ (a b : Bool). a && b) (h x (List·Memᴰ·head refl)) (all-agree p q xs (λ y m. h y (List·Memᴰ·tail m)))
+
+  none-guarded : (p : A → Bool) (xs : List A) → any (λ (x : A). false && p x) xs ≡ false
+  unfolding any
+  none-guarded p [] = refl
+  none-guarded p (x ∷ xs) = none-guarded p xs
+
+  -- a condition on all elements may stand at each
+  pub any-guarded : (b : Bool) (p : A → Bool) (xs : List A) → b && any p xs ≡ any (λ (x : A). b && p x) xs
+  any-guarded true p xs = refl
+  any-guarded false p xs = sym (none-guarded p xs)
+
   -- elements by their places
+
+  pub take-mem : (n : ℕ) (xs : List A) {x : A} → List·Memᴰ x (take n xs) → List·Memᴰ x xs
+  take-mem n xs {x} m = subst (λ (ys : List A). List·Memᴰ x ys) (take-append-drop n xs) (Memᴰ·append-left (drop n xs) m)
+
+  pub mem-replicate : {x y : A} (n : ℕ) → List·Memᴰ x (replicate n y) → x ≡ y
+  mem-replicate zero m = absurd (List·Memᴰ·not-nil m)
+  mem-replicate {x} {y} (suc n) m = ⊎-elim (λ (e : x ≡ y). e) (λ (k : List·Memᴰ x (replicate n y)). mem-replicate n k) (List·Memᴰ·cases-cons m)
+
+  pub some-element : (xs : List A) → 1 ≤ length xs → (x : A) × List·Memᴰ x xs
+  some-element [] h = absurd (omega arith)
+  some-element (x ∷ xs) h = (x, List·Memᴰ·head refl)
+
+  pub mem-getD : {x : A} {xs : List A} (d : A) → List·Memᴰ x xs → (i : ℕ) × (i < length xs) × (getD xs i d ≡ x)
+  mem-getD d (List·Memᴰ·head e) = (0, omega arith, sym e)
+  mem-getD d (List·Memᴰ·tail m) = let (i, h, e) = mem-getD d m in (suc i, omega arith, e)
 
   pub getD-mem : (xs : List A) (n : ℕ) (d : A) → n < length xs → List·Memᴰ (getD xs n d) xs
   getD-mem [] n d h = absurd (omega arith)
@@ -165,6 +230,43 @@ module _ {ℓ ℓ′} {A : Type ℓ} {B : Type ℓ′} where
       go below (inl e) = (x, List·Memᴰ·head refl, e)
       go below (inr k) = let (z, i, j) = below k in (z, List·Memᴰ·tail i, j)
 
+  pub collect-agree : (f g : A → List B) (xs : List A) → ((x : A) → List·Memᴰ x xs → f x ≡ g x) → collect f xs ≡ collect g xs
+  unfolding collect
+  collect-agree f g [] h = refl
+  collect-agree f g (x ∷ xs) h = ap₂ (λ (ys zs : List B). ys ++ zs) (h x (List·Memᴰ·head refl)) (collect-agree f g xs (λ y m. h y (List·Memᴰ·tail m)))
+
+  -- tests of images
+
+  pub any-map : (p : B → Bool) (g : A → B) (xs : List A) → any p (map g xs) ≡ any (λ (x : A). p (g x)) xs
+  unfolding any
+  any-map p g [] = refl
+  any-map p g (x ∷ xs) = ap (λ (b : Bool). p (g x) || b) (any-map p g xs)
+
+  pub any-image : (p : B → Bool) (q : A → Bool) (g : A → B) (xs : List A) → ((x : A) → List·Memᴰ x xs → p (g x) ≡ q x) → any p (map g xs) ≡ any q xs
+  any-image p q g xs h = any-map p g xs ∙ any-agree (λ (x : A). p (g x)) q xs h
+
+  pub keep-map : (p : B → Bool) (g : A → B) (xs : List A) → keep p (map g xs) ≡ map g (keep (λ (x : A). p (g x)) xs)
+  unfolding keep
+  keep-map p g [] = refl
+  keep-map p g (x ∷ xs) = go (case (p (g x))) (keep-map p g xs)
+    where
+      q : A → Bool
+      q y = p (g y)
+
+      go : (p (g x) ≡ true) ⊎ (p (g x) ≡ false) → keep p (map g xs) ≡ map g (keep q xs) → keep p (map g (x ∷ xs)) ≡ map g (keep q (x ∷ xs))
+      go (inl e) below = keep-yes p (g x) (map g xs) e ∙ ap (λ (zs : List B). g x ∷ zs) below ∙ ap (map g) (sym (keep-yes q x xs e))
+      go (inr e) below = keep-no p (g x) (map g xs) e ∙ below ∙ ap (map g) (sym (keep-no q x xs e))
+
+  pub keep-image : (p : B → Bool) (q : A → Bool) (g : A → B) (xs : List A) → ((x : A) → List·Memᴰ x xs → p (g x) ≡ q x) → keep p (map g xs) ≡ map g (keep q xs)
+  keep-image p q g xs h = keep-map p g xs ∙ ap (map g) (keep-agree (λ (x : A). p (g x)) q xs h)
+
+  -- images by their places
+
+  pub take-map : (g : A → B) (i : ℕ) (xs : List A) → take i (map g xs) ≡ map g (take i xs)
+  take-map g zero xs = refl
+  take-map g (suc i) [] = refl
+  take-map g (suc i) (x ∷ xs) = ap (λ (l : List B). g x ∷ l) (take-map g i xs)
+
   pub getD-map : (g : A → B) (xs : List A) (i : ℕ) (d : B) (c : A) → i < length xs → getD (map g xs) i d ≡ g (getD xs i c)
   getD-map g [] i d c h = absurd (omega arith)
   getD-map g (x ∷ xs) zero d c h = refl
@@ -192,11 +294,6 @@ unfolding member
 mem-member {x} m = mem-any (eqb x) m (eq-eqb x x refl)
 
 module _ {ℓ} {A : Type ℓ} where
-  -- no element twice
-  pub data Distinct : List A → Type ℓ where
-    none : Distinct []
-    one : {x : A} {xs : List A} → (List·Memᴰ x xs → ⊥) → Distinct xs → Distinct (x ∷ xs)
-
   pub distinct-snoc : {xs : List A} (y : A) → Distinct xs → (List·Memᴰ y xs → ⊥) → Distinct (xs ++ (y ∷ []))
   distinct-snoc y none h = one List·Memᴰ·not-nil none
   distinct-snoc y (one {x = x} {xs = xs} n d) h =

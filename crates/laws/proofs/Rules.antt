@@ -1,48 +1,19 @@
 -- Laws of a rule's variables and of the numbered entries. Assumes nothing.
 use mathlib.Core.Path.{_≡_, refl, sym, ap, subst}
 use mathlib.Core.Bool.{Bool, true, false, _&&_, not}
-use mathlib.Core.Logic.{_⊎_, inl, inr, ⊎-elim}
+use mathlib.Core.Logic.{_⊎_, inl, inr}
 use mathlib.Core.List.{List, [], _∷_, List·Memᴰ, List·Memᴰ·head, List·Memᴰ·tail, List·Memᴰ·not-nil, List·Memᴰ·cases-cons}
-use Prim.Native.Nat.{ℕ, zero, suc, _+_, _≤_, _<_}
+use Prim.Native.Nat.{ℕ, suc, _+_, _≤_}
 use native.Mathlib.Omega.{arith}
+use lib.Dec.{eqb, ltb}
 use lib.ListN.{length}
-use native.Mathlib.Decide.{decLt}
-use borrow.Author.Tests.{not-true}
-use Rattle.model.specs.Lists.{any, keep, member}
-use Rattle.model.specs.Rules.{Atom, Rule, RuleSet, Disjunct, Entry, names, variablesOf, inBody, universal, frontier, existential, disjunctsFrom, countSkolem, entriesFrom, entries}
-use Rattle.laws.proofs.Bools.{and-true, true-and, case}
-use Rattle.laws.proofs.Lists.{keep-yes, keep-no, mem-keep, keep-mem, mem-member, member-mem, mem-any, mem-collect, collect-mem, Distinct, none, one, length-keep}
-
--- n numbers from one on
-unfoldable pub rising : ℕ → ℕ → List ℕ
-rising k zero = []
-rising k (suc n) = k ∷ rising (suc k) n
-
-rising-above : (k n v : ℕ) → List·Memᴰ v (rising k n) → k ≤ v
-unfolding rising
-rising-above k zero v m = absurd (List·Memᴰ·not-nil m)
-rising-above k (suc n) v m =
-    ⊎-elim (λ (e : v ≡ k). omega arith) (λ (i : List·Memᴰ v (rising (suc k) n)). let h = rising-above (suc k) n v i in omega arith) (List·Memᴰ·cases-cons m)
-
-rising-below : (k n : ℕ) {v : ℕ} → List·Memᴰ v (rising k n) → v < k + n
-unfolding rising
-rising-below k zero m = absurd (List·Memᴰ·not-nil m)
-rising-below k (suc n) {v} m =
-    ⊎-elim (λ (e : v ≡ k). omega arith) (λ (i : List·Memᴰ v (rising (suc k) n)). let h = rising-below (suc k) n i in omega arith) (List·Memᴰ·cases-cons m)
-
-rising-distinct : (k n : ℕ) → Distinct (rising k n)
-unfolding rising
-rising-distinct k zero = none
-rising-distinct k (suc n) = one (λ m. let h = rising-above (suc k) n k m in omega arith) (rising-distinct (suc k) n)
-
-mem-rising : (k n v : ℕ) → k ≤ v → v < k + n → List·Memᴰ v (rising k n)
-unfolding rising
-mem-rising k zero v h l = absurd (omega arith)
-mem-rising k (suc n) v h l = go (λ i. mem-rising (suc k) n v i (omega arith)) (decLt k v)
-  where
-    go : (k < v → List·Memᴰ v (rising (suc k) n)) → Dec (k < v) → List·Memᴰ v (k ∷ rising (suc k) n)
-    go below (yes i) = List·Memᴰ·tail (below i)
-    go below (no i) = let e : v ≡ k = omega arith in List·Memᴰ·head e
+use borrow.Author.Tests.{ltb-true, eqb-true, not-true}
+use Rattle.model.specs.Lists.{any, keep, member, all}
+use Rattle.model.specs.Rules.{Atom, Rule, RuleSet, Disjunct, Entry, names, variablesOf, inBody, universal, frontier, existential, disjunctsFrom, countSkolem, entriesFrom, entries, existentialFree, datalog, blockable}
+use Rattle.laws.specs.Lists.{Distinct, none, one, rising}
+use Rattle.laws.proofs.Bools.{and-true, true-and, case, is-false}
+use Rattle.laws.proofs.Rising.{rising-below, rising-distinct, mem-rising}
+use Rattle.laws.proofs.Lists.{keep-yes, keep-no, mem-keep, keep-mem, mem-member, member-mem, mem-any, mem-collect, collect-mem, length-keep}
 
 -- the variables are the numbers up to 7, each once
 
@@ -208,3 +179,11 @@ entriesFrom-disjuncts n (r ∷ rs) {e} m = go (λ k. entriesFrom-disjuncts (n + 
 pub length-disjuncts : (b : RuleSet) {e : Entry} → List·Memᴰ e (entries b) → length (e .disjuncts) ≡ length (e .rule .head)
 unfolding entries
 length-disjuncts b m = entriesFrom-disjuncts 0 (b .rules) m
+
+-- blockable rules are no Datalog rules
+pub blockable-not-datalog : (r : Rule) → blockable r ≡ true → datalog r ≡ false
+unfolding blockable datalog
+blockable-not-datalog r h =
+    let k = ltb-true 1 (length (r .head)) (and-true (ltb 1 (length (r .head))) (any (existentialFree r) (r .head)) h .0) in
+    is-false (datalog r)
+    (λ d. let n = eqb-true (length (r .head)) 1 (and-true (eqb (length (r .head)) 1) (all (existentialFree r) (r .head)) d .0) in omega arith)

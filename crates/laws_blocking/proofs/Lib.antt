@@ -1,5 +1,4 @@
-pub mod Lists
-pub mod Subterms
+pub mod Built
 pub mod Apart
 pub mod Copies
 pub mod Template

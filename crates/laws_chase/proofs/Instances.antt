@@ -10,8 +10,9 @@ use Rattle.model.specs.Lists.{collect}
 use Rattle.model.specs.Term.{Term, Terms, star, constant, apart, fresh, skolem, none, more, starred, starredAll, stars, starsAll}
 use Rattle.model.specs.Triggers.{Fact}
 use Rattle.model.specs.Demand.{starredFact, starsOf, bound}
-use Rattle.laws.proofs.Lists.{Distinct, mem-map, mem-collect}
-use Rattle.laws_chase.proofs.Counting.{distinct-length, collect-length}
+use Rattle.laws.specs.Lists.{Distinct}
+use Rattle.laws.proofs.Lists.{mem-map, mem-collect}
+use Rattle.laws.proofs.Counting.{distinct-length, collect-length}
 
 -- a term whose leaves are constants of a list
 mutual

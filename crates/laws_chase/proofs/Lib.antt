@@ -1,4 +1,3 @@
-pub mod Counting
 pub mod Instances
 pub mod Attempts
 pub mod Steps

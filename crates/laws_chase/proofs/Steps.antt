@@ -13,8 +13,9 @@ use Rattle.model.specs.Rules.{Rule, RuleSet, Disjunct, Entry, inBody, frontier}
 use Rattle.model.specs.Triggers.{Fact, sameFact, termsOf, instantiate, headTerm, headFacts}
 use Rattle.model.specs.Chase.{Attempt, State, attempt, chase, initial}
 use Rattle.model.specs.Demand.{starredFact, constants, bound, Constants, none, more, Over}
+use Rattle.laws.specs.Lists.{Distinct, none as distinct-none}
 use Rattle.laws.proofs.Bools.{case}
-use Rattle.laws.proofs.Lists.{Distinct, none as distinct-none, mem-map, map-mem, extend-distinct, extend-mem, extend-right, extend-left}
+use Rattle.laws.proofs.Lists.{mem-map, map-mem, extend-distinct, extend-mem, extend-right, extend-left}
 use Rattle.laws.proofs.Terms.{same-decides}
 use Rattle.laws.proofs.Facts.{sameFact-decides, mem-termsOf}
 use Rattle.laws.proofs.Rules.{entries-mem, inBody-mem, variablesOf-mem, frontier-mem, universal-mem}

@@ -1,5 +1,4 @@
 pub mod Maps
-pub mod Skolem
 pub mod Starred
 pub mod Disjuncts
 pub mod Loaded

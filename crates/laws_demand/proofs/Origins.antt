@@ -6,7 +6,7 @@ use mathlib.Core.Logic.{_⊎_, inl, inr, ⊎-elim}
 use mathlib.Core.List.{List, map, List·Memᴰ, List·Memᴰ·not-nil, List·Memᴰ·cases-cons}
 use Prim.Native.Nat.{ℕ, suc, _+_, _≤_}
 use lib.Dec.{eqb}
-use Rattle.model.specs.Lists.{extend, index}
+use Rattle.model.specs.Lists.{extend, index, collect}
 use Rattle.model.specs.Term.{Term, Terms, constant, skolem, list, terms}
 use Rattle.model.specs.Rules.{Atom, RuleSet, Disjunct, Entry, entries, inBody, frontier, existential, owns}
 use Rattle.model.specs.WellFormed.{WellFormed}
@@ -19,9 +19,10 @@ use Rattle.laws.proofs.Facts.{sameFact-decides, mem-termsOf, termsOf-mem}
 use Rattle.laws.proofs.Rules.{universal-mem, frontier-mem, mem-existential, mem-variablesOf, entries-mem}
 use Rattle.laws.proofs.Triggers.{Loaded, headTerm-universal, headTerm-existential, headFacts-mem, loaded-value}
 use Rattle.laws.proofs.WellFormed.{entry-well-formed}
-use Rattle.laws_demand.proofs.Skolem.{disjunctsOf, owns-existential}
+use Rattle.laws.proofs.Owners.{disjunctsOf, owns-existential}
+use Rattle.laws_published.proofs.Subterms.{subterms, skolem-function, skolem-arguments, subterms-constant, skolem-cases}
 use Rattle.laws_demand.proofs.Loaded.{Satisfied}
-use Rattle.laws_demand.proofs.Subterms.{subtermsOf, subterms, subtermsAll, skolem-function, skolem-arguments, subterms-skolem, subterms-constant, subtermsAll-terms, mem-subtermsOf, subtermsOf-mem}
+use Rattle.laws_demand.proofs.Subterms.{subtermsOf, mem-subtermsOf, subtermsOf-mem}
 
 -- the step that made skolem f ts
 pub record Origin (b : RuleSet) (fs : List Fact) (f : ℕ) (ts : Terms) : Type 0 where
@@ -97,7 +98,7 @@ module _ {b : RuleSet} (w : WellFormed b) {fs : List Fact} (x : Explained b fs) 
   existential-variable : {v : ℕ} → List·Memᴰ v (existential (d .rule) (d .atoms)) → (f : ℕ) (ts : Terms)
       → List·Memᴰ (skolem f ts) (subterms (skolem (d .before + suc (index eqb v (existential (d .rule) (d .atoms)))) (terms (map σ (frontier (d .rule))))))
       → Origin b added f ts
-  existential-variable {v} n f ts k = go (subterms-skolem g us k)
+  existential-variable {v} n f ts k = go (skolem-cases g us k)
     where
       g : ℕ
       g = d .before + suc (index eqb v (existential (d .rule) (d .atoms)))
@@ -105,11 +106,11 @@ module _ {b : RuleSet} (w : WellFormed b) {fs : List Fact} (x : Explained b fs) 
       us : Terms
       us = terms (map σ (frontier (d .rule)))
 
-      go : (skolem f ts ≡ skolem g us) ⊎ List·Memᴰ (skolem f ts) (subtermsAll us) → Origin b added f ts
-      go (inl e) = subst₂ (λ (h : ℕ) (ws : Terms). Origin b added h ws) (sym (skolem-function e)) (sym (skolem-arguments e)) (new n)
-      go (inr i) =
-          let (u, p, q) = subtermsAll-terms (map σ (frontier (d .rule))) i in
-          let (z, s, e) = map-mem σ (frontier (d .rule)) p in
+      go : List·Memᴰ (skolem f ts) (collect subterms (list us)) ⊎ (skolem f ts ≡ skolem g us) → Origin b added f ts
+      go (inr e) = subst₂ (λ (h : ℕ) (ws : Terms). Origin b added h ws) (sym (skolem-function e)) (sym (skolem-arguments e)) (new n)
+      go (inl i) =
+          let (u, p, q) = collect-mem subterms (list us) i in
+          let (z, s, e) = map-mem σ (frontier (d .rule)) (subst (λ (l : List Term). List·Memᴰ u l) (list-terms (map σ (frontier (d .rule)))) p) in
           bound-variable z (universal-mem (d .rule) (frontier-mem (d .rule) s)) f ts (subst (λ (y : Term). List·Memᴰ (skolem f ts) (subterms y)) e q)
 
   head-term : {a : Atom} {v : ℕ} → List·Memᴰ a (d .atoms) → List·Memᴰ v (a .variables) → (f : ℕ) (ts : Terms)

@@ -6,7 +6,7 @@ use mathlib.Core.List.{List, [], _∷_, _++_, map}
 use Prim.Native.Nat.{ℕ, suc}
 use Rattle.model.specs.Lists.{all, any, member}
 use Rattle.model.specs.Term.{Position, child, root, Term, Terms, star, constant, apart, fresh, skolem, none, more, terms, functions, functionsAll, cyclic, cyclicAny, starred, starredAll}
-use Rattle.model.specs.Rules.{Disjunct, Entry, universal, datalog}
+use Rattle.model.specs.Rules.{Disjunct, Entry, universal, blockable}
 use Rattle.model.specs.Triggers.{Fact, present, assign, headFacts}
 use Rattle.model.specs.Blocking.{rename, renameAll, renamed, saturate, testBase, testSet, blocked}
 use Rattle.model.specs.Demand.{starredFact}
@@ -85,9 +85,9 @@ renamed-starred (v ∷ vs) (t ∷ m) = ap₂ (λ (u : Term) (us : List Term). u 
 -- the test of a trigger by its terms renamed apart
 tested : List Entry → Entry → List Term → Bool
 tested es e u =
-    elim (datalog (e .rule)) [
-      | true ↦ false
-      | false ↦
+    elim (blockable (e .rule)) [
+      | false ↦ false
+      | true ↦
           let s : List Fact = saturate 1025 es (testBase es (e .rule) u) in
           any (λ (d : Disjunct). all (present s) (headFacts (assign (universal (e .rule)) u) d)) (e .disjuncts)
     ]

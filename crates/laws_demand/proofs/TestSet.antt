@@ -23,8 +23,8 @@ use Rattle.laws.proofs.Terms.{same-decides}
 use Rattle.laws.proofs.Rules.{mem-inBody, mem-variablesOf, universal-mem, entries-mem}
 use Rattle.laws.proofs.Triggers.{Loaded, Agree, assign-map, instantiate-agree, headFacts-agree, loaded-value}
 use Rattle.laws.proofs.WellFormed.{inBody-universal, entry-well-formed}
+use Rattle.laws.proofs.Owners.{disjunctsOf, owner-unique}
 use Rattle.laws_demand.proofs.Maps.{mapFact, Commutes, map-assign, map-instantiate, map-headFacts, mem-map-headFacts}
-use Rattle.laws_demand.proofs.Skolem.{disjunctsOf, owner-unique}
 use Rattle.laws_demand.proofs.Loaded.{Satisfied, mem-satisfied}
 use Rattle.laws_demand.proofs.Subterms.{subtermsOf, termsOf-subtermsOf, subtermsOf-argument}
 use Rattle.laws_demand.proofs.Origins.{Origin, Explained}

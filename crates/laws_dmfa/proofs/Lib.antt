@@ -1,4 +1,3 @@
-pub mod Lists
 pub mod Stages
 pub mod Sizes
 pub mod Cyclic

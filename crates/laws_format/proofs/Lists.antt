@@ -6,7 +6,6 @@ use native.Mathlib.Omega.{arith}
 use native.Mathlib.Nat.{zero-mul, suc-mul}
 use lib.ListN.{length, length-append}
 use Rattle.model.specs.Lists.{collect}
-pub use Rattle.laws.proofs.Lists.{getD-mem}
 
 module _ {A : Type 0} (f : A → List ℕ) (k : ℕ) where
   pub length-collect-le : (xs : List A) → ((x : A) → List·Memᴰ x xs → length (f x) ≤ k) → length (collect f xs) ≤ length xs * k

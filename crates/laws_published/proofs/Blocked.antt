@@ -7,7 +7,7 @@ use Prim.Native.Nat.{ℕ, _≤_}
 use lib.ListN.{length}
 use Rattle.model.specs.Lists.{all, any}
 use Rattle.model.specs.Term.{Term}
-use Rattle.model.specs.Rules.{Rule, RuleSet, Disjunct, Entry, entries, universal, datalog}
+use Rattle.model.specs.Rules.{Rule, RuleSet, Disjunct, Entry, entries, universal, blockable}
 use Rattle.model.specs.Triggers.{Fact, present, assign, headFacts}
 use Rattle.model.specs.Blocking.{renamed, testBase, testSet, blocked}
 use Rattle.model.specs.Published.{Closed, Blocked}
@@ -15,6 +15,7 @@ use Rattle.laws.proofs.Bools.{case, not-both}
 use Rattle.laws.proofs.Lists.{any-mem, mem-any, all-mem, mem-all}
 use Rattle.laws.proofs.Facts.{present-mem, mem-present}
 use Rattle.laws.proofs.Prefixes.{prefix-mem}
+use Rattle.laws.proofs.Rules.{blockable-not-datalog}
 use Rattle.laws_stages.proofs.Rounds.{testSet-begins, testSet-closes}
 use Rattle.laws_published.proofs.Closure.{saturate-sound, closed-within}
 
@@ -26,18 +27,17 @@ apartly r m = assign (universal r) (renamed (universal r) m)
 abbrev pub holdsDisjunct : List Fact → Entry → List Term → Bool
 holdsDisjunct fs e m = any (λ (d : Disjunct). all (present fs) (headFacts (apartly (e .rule) m) d)) (e .disjuncts)
 
-pub blocked-datalog : (es : List Entry) (e : Entry) (m : List Term) → datalog (e .rule) ≡ true → blocked es e m ≡ false
+pub blocked-unblockable : (es : List Entry) (e : Entry) (m : List Term) → blockable (e .rule) ≡ false → blocked es e m ≡ false
 unfolding blocked
-blocked-datalog es e m h = rw (h, blocked)
+blocked-unblockable es e m h = rw (h, blocked)
 
-pub blocked-other : (es : List Entry) (e : Entry) (m : List Term) → datalog (e .rule) ≡ false
-    → blocked es e m ≡ holdsDisjunct (testSet es (e .rule) m) e m
+pub blocked-blockable : (es : List Entry) (e : Entry) (m : List Term) → blockable (e .rule) ≡ true → blocked es e m ≡ holdsDisjunct (testSet es (e .rule) m) e m
 unfolding blocked
-blocked-other es e m h = rw (h, blocked)
+blocked-blockable es e m h = rw (h, blocked)
 
-pub blocked-not-datalog : (es : List Entry) (e : Entry) (m : List Term) → blocked es e m ≡ true → datalog (e .rule) ≡ false
-blocked-not-datalog es e m h =
-    ⊎-elim (λ (i : datalog (e .rule) ≡ true). not-both (blocked es e m) h (blocked-datalog es e m i)) (λ (i : datalog (e .rule) ≡ false). i) (case (datalog (e .rule)))
+only-blockable : (es : List Entry) (e : Entry) (m : List Term) → blocked es e m ≡ true → blockable (e .rule) ≡ true
+only-blockable es e m h =
+    ⊎-elim (λ (i : blockable (e .rule) ≡ true). i) (λ (i : blockable (e .rule) ≡ false). not-both (blocked es e m) h (blocked-unblockable es e m i)) (case (blockable (e .rule)))
 
 module _ (b : RuleSet) where
   pub test-set-sound : (r : Rule) (m : List Term) {f : Fact} → List·Memᴰ f (testSet (entries b) r m)
@@ -57,14 +57,14 @@ module _ (b : RuleSet) where
 
   pub blocked-sound : (e : Entry) (m : List Term) → blocked (entries b) e m ≡ true → Blocked b e m
   blocked-sound e m h =
-      let n = blocked-not-datalog (entries b) e m h in
+      let n = only-blockable (entries b) e m h in
       let s = testSet (entries b) (e .rule) m in
-      let (d, k, a) = any-mem (λ (d : Disjunct). all (present s) (headFacts (apartly (e .rule) m) d)) (e .disjuncts) (sym (blocked-other (entries b) e m n) ∙ h) in
-      (n, d, k, λ f i. test-set-sound (e .rule) m (present-mem s f (all-mem (present s) a i)))
+      let (d, k, a) = any-mem (λ (d : Disjunct). all (present s) (headFacts (apartly (e .rule) m) d)) (e .disjuncts) (sym (blocked-blockable (entries b) e m n) ∙ h) in
+      (blockable-not-datalog (e .rule) n, d, k, λ f i. test-set-sound (e .rule) m (present-mem s f (all-mem (present s) a i)))
 
-  pub blocked-complete : (e : Entry) (m : List Term) → length (testSet (entries b) (e .rule) m) ≤ 1024 → Blocked b e m → blocked (entries b) e m ≡ true
-  blocked-complete e m h (n, d, k, c) =
+  pub blocked-complete : (e : Entry) (m : List Term) → blockable (e .rule) ≡ true → length (testSet (entries b) (e .rule) m) ≤ 1024 → Blocked b e m → blocked (entries b) e m ≡ true
+  blocked-complete e m j h (n, d, k, c) =
       let s = testSet (entries b) (e .rule) m in
-      blocked-other (entries b) e m n
+      blocked-blockable (entries b) e m j
       ∙ mem-any (λ (d : Disjunct). all (present s) (headFacts (apartly (e .rule) m) d)) k
       (mem-all (present s) (headFacts (apartly (e .rule) m) d) (λ f i. mem-present (test-set-complete (e .rule) m h (c f i))))

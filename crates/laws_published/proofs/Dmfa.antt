@@ -18,14 +18,15 @@ use Rattle.laws.proofs.Bools.{case, not-both, is-false}
 use Rattle.laws.proofs.Facts.{termsOf-mem}
 use Rattle.laws.proofs.Triggers.{Assignment, Loaded, triggers-mem}
 use Rattle.laws.proofs.Prefixes.{prefix-mem}
+use Rattle.laws_stages.specs.Reached.{Reached}
 use Rattle.laws_stages.proofs.Outputs.{Fires, outputs-mem, mem-outputs, cyclicTerms-mem, outputs-acyclic, test-sets-within}
 use Rattle.laws_stages.proofs.Growth.{stage-zero-facts, stage-zero-terms, outputsOf, facts-from, facts-grow, outputs-added, arguments-in-terms, Named, terms-are-named}
-use Rattle.laws_stages.proofs.Verdict.{Reached, Looping, Cause, large, many, facts, terms, accepted-says, looping-says, refused-says, reached-before, accepted-closed}
+use Rattle.laws_stages.proofs.Verdict.{Looping, Cause, large, many, facts, terms, accepted-says, looping-says, refused-says, reached-before, accepted-closed}
 use Rattle.laws_stages.proofs.Order.{Proper, proper-star, proper-skolem, terms-proper}
 use Rattle.laws_published.proofs.Closure.{loaded-trigger}
 use Rattle.laws_published.proofs.Blocked.{blocked-sound, blocked-complete}
-use Rattle.laws_published.proofs.Subterms.{Grounded, grounded-star, grounded-skolem}
-use Rattle.laws_published.proofs.Unblockable.{never-blocked, never-blocked-computed}
+use Rattle.laws_published.proofs.Rooted.{Grounded, grounded-star, grounded-skolem}
+use Rattle.laws_published.proofs.Unblockable.{never-blocked}
 
 -- terms of stages are grounded
 proper-grounded : {t : Term} → Proper t → Grounded t
@@ -101,10 +102,10 @@ module _ (b : RuleSet) (wf : WellFormed b) where
   trigger-grounded : (n : ℕ) (e : Entry) (m : List Term) → List·Memᴰ m (triggersIn (stage b n) e) → (t : Term) → List·Memᴰ t m → Grounded t
   trigger-grounded n e m k t i = proper-grounded (terms-proper b wf n (triggersIn-mem (stage b n) e k .0 .terms t i))
 
-  -- only blockable rules need the blocking test
+  -- only blockable rules need the blocking test: the others have no blocked trigger in the published sense
   pub unblockable-free : (n : ℕ) (e : Entry) (m : List Term) → List·Memᴰ e (entries b) → blockable (e .rule) ≡ false
-      → List·Memᴰ m (triggersIn (stage b n) e) → blocked (entries b) e m ≡ false
-  unblockable-free n e m i j k = never-blocked-computed wf i j m (triggersIn-mem (stage b n) e k .0 .total) (trigger-grounded n e m k)
+      → List·Memᴰ m (triggersIn (stage b n) e) → Blocked b e m → ⊥
+  unblockable-free n e m i j k h = never-blocked wf i j m (triggersIn-mem (stage b n) e k .0 .total) (trigger-grounded n e m k) h
 
   -- on the triggers of a stage whose test sets are within their limit, the test decides the published notion
   pub blocked-is-published : (n : ℕ) (e : Entry) (m : List Term) → tooMany (entries b) (stage b n) ≡ false → List·Memᴰ e (entries b)
@@ -112,8 +113,8 @@ module _ (b : RuleSet) (wf : WellFormed b) where
   blocked-is-published n e m few i k = (blocked-sound b e m, go (case (blockable (e .rule))))
     where
       go : (blockable (e .rule) ≡ true) ⊎ (blockable (e .rule) ≡ false) → Blocked b e m → blocked (entries b) e m ≡ true
-      go (inl j) h = blocked-complete b e m (test-sets-within (entries b) (stage b n) few i j k) h
-      go (inr j) h = absurd (never-blocked wf i j m (triggersIn-mem (stage b n) e k .0 .total) (trigger-grounded n e m k) h)
+      go (inl j) h = blocked-complete b e m j (test-sets-within (entries b) (stage b n) few i j k) h
+      go (inr j) h = absurd (unblockable-free n e m i j k h)
 
   -- a stage is within the set if the test sets of all earlier ones are within their limit
   pub stage-within-dmfa : (n : ℕ) → ((j : ℕ) → j < n → tooMany (entries b) (stage b j) ≡ false) → (f : Fact) → List·Memᴰ f (stage b n .facts) → Dmfa b f

@@ -17,7 +17,8 @@ use Rattle.laws.proofs.Bools.{case}
 use Rattle.laws.proofs.Lists.{collect-mem, map-mem}
 use Rattle.laws.proofs.Terms.{list-terms}
 use Rattle.laws.proofs.Triggers.{assign-here, assign-there, headTerm-universal, headTerm-existential, headFacts-mem}
-use Rattle.laws_published.proofs.Subterms.{Inside, argument, deeper, Rooted, rooted-not-star, rooted-not-fresh}
+use Rattle.laws_published.proofs.Rooted.{Rooted, rooted-not-star, rooted-not-fresh}
+use Rattle.laws_published.proofs.Subterms.{Inside, inside-argument, inside-deeper}
 
 -- a value of a substitution is one of its terms, or ⋆ where it has none
 pub assign-cases : (vs : List ℕ) (m : List Term) (v : ℕ) → List·Memᴰ (assign vs m v) m ⊎ (assign vs m v ≡ star)
@@ -53,13 +54,13 @@ abbrev pub Below : Term → Term → Type 0
 Below t s = (g : ℕ) (us : Terms) → s ≡ skolem g us → (x : Term) → List·Memᴰ x (list us) → (w : ℕ) → Rooted w x → Inside x t
 
 pub below-self : (t : Term) → Below t t
-below-self t g us e x m w r = subst (Inside x) (sym e) (argument m)
+below-self t g us e x m w r = subst (Inside x) (sym e) (inside-argument g us m)
 
 below-argument : (f : ℕ) (ts : Terms) (s : Term) → List·Memᴰ s (list ts) → Below (skolem f ts) s
-below-argument f ts s i g us e x m w r = deeper {t = s} i (below-self s g us e x m w r)
+below-argument f ts s i g us e x m w r = inside-deeper f ts s i (below-self s g us e x m w r)
 
 below-deeper : (f : ℕ) (ts : Terms) (t s : Term) → List·Memᴰ t (list ts) → Below t s → Below (skolem f ts) s
-below-deeper f ts t s i h g us e x m w r = deeper {t = t} i (h g us e x m w r)
+below-deeper f ts t s i h g us e x m w r = inside-deeper f ts t i (h g us e x m w r)
 
 below-star : (t s : Term) → s ≡ star → Below t s
 below-star t s h g us e x m w r = let z : _≡_ {A = ℕ} 0 1 = cc in absurd (omega arith)
@@ -86,7 +87,7 @@ module _ (f : ℕ) (ts : Terms) where
       s = template (skolem f ts) ts r v
 
       go : List·Memᴰ s (list ts) ⊎ ((s ≡ star) ⊎ (s ≡ fresh (skolem f ts) v)) → Inside x (skolem f ts)
-      go (inl k) = argument (Memᴰ·cast e k)
+      go (inl k) = inside-argument f ts (Memᴰ·cast e k)
       go (inr (inl k)) = absurd (rooted-not-star h (e ∙ k))
       go (inr (inr k)) = absurd (rooted-not-fresh h (e ∙ k))
 

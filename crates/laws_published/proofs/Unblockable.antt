@@ -1,4 +1,4 @@
--- A rule that is not blockable has no blocked trigger, published or computed: its Skolem term over the renamed frontier would stand inside
+-- A rule that is not blockable has no blocked trigger in the published sense: its Skolem term over the renamed frontier would stand inside
 -- what it is made of. Assumes nothing.
 use mathlib.Core.Path.{_≡_, refl, sym, ap, _∙_, subst}
 use mathlib.Core.Bool.{true, false}
@@ -14,7 +14,7 @@ use Rattle.model.specs.Term.{root, Term, skolem, terms, size}
 use Rattle.model.specs.Rules.{Atom, Rule, RuleSet, Disjunct, Entry, entries, variablesOf, inBody, universal, frontier, existential, existentialFree, datalog, blockable}
 use Rattle.model.specs.WellFormed.{WellFormedRule, WellFormed}
 use Rattle.model.specs.Triggers.{Fact, sameFact, assign, instantiate, headTerm, termsOf}
-use Rattle.model.specs.Blocking.{rename, renamed, made, testBase, blocked}
+use Rattle.model.specs.Blocking.{rename, renamed, made, testBase}
 use Rattle.model.specs.Published.{Substitution, Blocked}
 use Rattle.laws.proofs.Bools.{case, not-both, and-false, true-and, is-false}
 use Rattle.laws.proofs.Lists.{any-false, mem-all, mem-map, map-mem, collect-mem, extend-mem}
@@ -25,8 +25,9 @@ use Rattle.laws.proofs.Triggers.{assign-here, assign-there, assign-all, assign-
 use Rattle.laws.proofs.WellFormed.{entry-well-formed, inBody-universal}
 use Rattle.laws_stages.proofs.Order.{frontier-shared}
 use Rattle.laws_published.proofs.Closure.{instantiate-argument}
-use Rattle.laws_published.proofs.Blocked.{apartly, blocked-sound}
-use Rattle.laws_published.proofs.Subterms.{Inside, inside-size, Rooted, rooted-inside, rooted-unique, Grounded, rename-root-rooted}
+use Rattle.laws_published.proofs.Blocked.{apartly}
+use Rattle.laws_published.proofs.Rooted.{Rooted, rooted-inside, rooted-unique, Grounded, rename-root-rooted}
+use Rattle.laws_published.proofs.Subterms.{Inside, inside-size}
 use Rattle.laws_published.proofs.MadeBy.{instantiate-mem, Below, below-self, made-below}
 use Rattle.laws_published.proofs.Invention.{closed-argument}
 
@@ -101,8 +102,8 @@ module _ {arities : List ℕ} (r : Rule) (wf : WellFormedRule arities r) (m : Li
       let x : Rooted v (apartly r m v) = apartly-rooted g (frontier-mem r k) in
       let n : Inside (apartly r m v) (apartly r m w) =
       h f (terms (map (apartly r m) (frontier r))) refl (apartly r m v) (rw (list-terms (map (apartly r m) (frontier r))) (mem-map (apartly r m) k)) v x in
-      let e : v ≡ w = rooted-unique x (rooted-inside n (apartly-rooted g j)) in
-      let p : size (apartly r m v) < size (apartly r m w) = inside-size n in
+      let e : v ≡ w = rooted-unique x (rooted-inside (apartly r m w) n (apartly-rooted g j)) in
+      let p : size (apartly r m v) < size (apartly r m w) = inside-size (apartly r m w) n in
       let q : size (apartly r m v) ≡ size (apartly r m w) = ap (λ (y : ℕ). size (apartly r m y)) e in
       omega arith
 
@@ -157,6 +158,3 @@ module _ {b : RuleSet} (wf : WellFormed b) {e : Entry} (entered : List·Memᴰ e
       let x = closed-argument wf (c (instantiate (headTerm d (apartly r m)) a) (mem-headFacts (apartly r m) d s)) (headTerm d (apartly r m) v) (instantiate-argument (headTerm d (apartly r m)) a t) in
       let (f, h) = headTerm-skolem d r (apartly r m) v p o in
       not-in-base r (entry-well-formed wf entered) m sub grounded (entries b) f w (Memᴰ·cast (sym h) x)
-
-  pub never-blocked-computed : blocked (entries b) e m ≡ false
-  never-blocked-computed = is-false (blocked (entries b) e m) (λ h. never-blocked (blocked-sound b e m h))

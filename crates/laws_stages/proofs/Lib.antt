@@ -1,4 +1,3 @@
-pub mod Lists
 pub mod Outputs
 pub mod Growth
 pub mod Arities

@@ -170,9 +170,6 @@ terms-proper b w (suc n) {t} m =
     ⊎-elim (λ (i : List·Memᴰ t (stage b n .terms)). terms-proper b w n i)
     (λ (i : Invented (entries b) (stage b n .terms) t). invented-proper (λ u k. terms-proper b w n k) i) (terms-from b w n m)
 
-pub arguments-proper : (b : RuleSet) → WellFormed b → (n : ℕ) {f : Fact} {t : Term} → List·Memᴰ f (stage b n .facts) → List·Memᴰ t (f .arguments) → Proper t
-arguments-proper b w n m k = terms-proper b w n (arguments-in-terms b n m k)
-
 -- each Skolem term's arguments stand before it
 abbrev pub Ordered : List Term → Type 0
 Ordered ts = (us : List Term) (f : ℕ) (as' : Terms) (vs : List Term) → ts ≡ us ++ (skolem f as' ∷ vs) → (t : Term) → List·Memᴰ t (list as') → List·Memᴰ t us
@@ -237,13 +234,6 @@ terms-ordered b w (suc n) = go (terms-ordered b w n) (terms-grow-once b n)
         subst (λ (l : List Term). Ordered l) (sym (p .whole))
         (append-ordered (stage b n .terms) (p .rest) o
         (λ f as' m. old o f as' (subst (λ (l : List Term). List·Memᴰ (skolem f as') l) (sym (p .whole)) (Memᴰ·append-right (stage b n .terms) m))))
-
--- an argument of a Skolem term in an output is a term of the stage
-pub outputs-arguments : (b : RuleSet) → WellFormed b → (n : ℕ) {f : Fact} {g : ℕ} {as' : Terms} → List·Memᴰ f (outputsOf b n)
-    → List·Memᴰ (skolem g as') (f .arguments) → (t : Term) → List·Memᴰ t (list as') → List·Memᴰ t (stage b n .terms)
-outputs-arguments b w n {f} {g} {as'} m k t j =
-    ⊎-elim (λ (i : List·Memᴰ (skolem g as') (stage b n .terms)). ordered-mem (terms-ordered b w n) i t j)
-    (λ (i : Invented (entries b) (stage b n .terms) (skolem g as')). invented-old i t j) (outputs-terms b w n m k)
 
 -- the same by index
 pub ordered-index : {ts : List Term} → Ordered ts → (i : ℕ) → i < length ts → {f : ℕ} {as' : Terms} → getD ts i star ≡ skolem f as' → (t : Term)

@@ -5,19 +5,16 @@ use mathlib.Core.Bool.{Bool, true, false, _&&_}
 use mathlib.Core.Logic.{_⊎_, inl, inr}
 use mathlib.Core.List.{List, []}
 use Prim.Native.Nat.{ℕ, _≤_, _<_}
-use native.Mathlib.Nat.{sub-zero}
 use native.Mathlib.Omega.{arith}
 use lib.Dec.{leb}
-use lib.ListN.{length, take, replicate}
+use lib.ListN.{length}
 use borrow.Author.Tests.{leb-true, le-leb}
-use Rattle.model.specs.Lists.{padded}
 use Rattle.model.specs.Rules.{RuleSet}
 use Rattle.model.specs.Format.{Parsed, good, bad, read}
 use Rattle.model.specs.Stages.{Verdict, accepted, looping, refused, verdict}
 use Rattle.model.specs.Limits.{termsFront, factsFront}
 use Rattle.model.specs.Tables.{Checked, checked, left, recorded, fronted}
 use Rattle.laws.proofs.Bools.{case, and-true, true-and, is-false}
-use Rattle.laws_tables.proofs.Rows.{take-fronted}
 use Rattle.laws_tables.proofs.Refusals.{Faulty, read-faulty, Excessive, verdict-excessive}
 
 -- both fronts are there
@@ -152,8 +149,3 @@ refused-zeroed bytes terms₀ facts₀ n p v l = go (course bytes terms₀ facts
         e ∙ ap (λ (x : Verdict). left b x terms₀ facts₀) (sym (checked-verdict bytes terms₀ facts₀ b i h r) ∙ v) ∙ left-refused b n p terms₀ facts₀
         in
         record { terms = ap (λ (c : Checked). c .terms) w; facts = ap (λ (c : Checked). c .facts) w }
-
--- what a front of no records is
-pub take-zeroed : (n : ℕ) (table : List ℕ) → take n (fronted n [] table) ≡ replicate n 0
-unfolding padded
-take-zeroed n table = take-fronted n [] table (omega arith) ∙ ap (λ (k : ℕ). replicate k 0) (sub-zero n)

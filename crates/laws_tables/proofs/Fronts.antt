@@ -12,12 +12,11 @@ use Rattle.model.specs.Triggers.{Fact}
 use Rattle.model.specs.Stages.{Stage, Verdict}
 use Rattle.model.specs.Limits.{termsFront, factsFront}
 use Rattle.model.specs.Tables.{Checked, number, termRow, factRow, recorded}
-use Rattle.laws.proofs.Lists.{collect-mem, map-mem}
+use Rattle.laws.proofs.Lists.{collect-mem, map-mem, mem-replicate}
 use Rattle.laws_format.proofs.Lists.{length-collect}
 use Rattle.laws_tables.proofs.Rows.{length-fronted, take-fronted, drop-fronted, padded-mem, fronted-within}
 use Rattle.laws_tables.proofs.Numbering.{number-below}
 use Rattle.laws_tables.proofs.Terms.{Recordable as RecordableTerm, plain, marked, length-termRow, recordable-mem}
-use Rattle.laws_stages.proofs.Lists.{mem-replicate}
 use Rattle.laws_tables.proofs.Facts.{Recordable, length-factRow}
 use Rattle.laws_tables.proofs.Recorded.{Recorded, termRecords, factRecords, recorded-terms, recorded-facts}
 
@@ -84,9 +83,6 @@ module _ {arities : List ℕ} {s : Stage} {us : List Term} (h : Recorded arities
     -- records first and zeros after
     pub terms-front : take termsFront (left .terms) ≡ padded termsFront (termRecords s us)
     terms-front = ap (take termsFront) (recorded-terms v s us terms₀ facts₀) ∙ take-fronted termsFront (termRecords s us) terms₀ terms-fit
-
-    pub facts-front : take factsFront (left .facts) ≡ padded factsFront (factRecords s)
-    facts-front = ap (take factsFront) (recorded-facts v s us terms₀ facts₀) ∙ take-fronted factsFront (factRecords s) facts₀ facts-fit
 
     -- beyond the fronts nothing changes
     pub terms-beyond : drop termsFront (left .terms) ≡ drop termsFront terms₀

@@ -13,6 +13,7 @@ use Rattle.model.specs.Lists.{collect}
 use Rattle.model.specs.Text.{digits, decimal, line, lines}
 use Rattle.laws.proofs.Bools.{case}
 use Rattle.laws.proofs.Lists.{collect-mem}
+use Rattle.laws_tables.specs.Lines.{spaced}
 
 digits-one : (k n : ℕ) → ltb n 10 ≡ true → digits (suc k) n ≡ (48 + n) ∷ []
 unfolding digits
@@ -71,10 +72,6 @@ digits-ascii (suc k) n = go (digits-ascii k (n / 10)) (case (ltb n 10))
 pub decimal-ascii : (n : ℕ) → Ascii (decimal n)
 unfolding decimal
 decimal-ascii n = digits-ascii 20 n
-
--- the numbers of a line, each behind its space
-abbrev pub spaced : List ℕ → List ℕ
-spaced ns = collect (λ (n : ℕ). 32 ∷ decimal n) ns
 
 spaced-ascii : (ns : List ℕ) → Ascii (spaced ns)
 spaced-ascii ns x m =

@@ -12,8 +12,8 @@ use Rattle.model.specs.Stages.{Verdict, accepted, looping, refused, stage, verd
 use Rattle.model.specs.Limits.{termsFront, factsFront}
 use Rattle.model.specs.Tables.{Checked, checked, left}
 use Rattle.model.specs.Text.{termNumbers, text, declared, textOf, printed}
-use Rattle.laws_stages.proofs.Verdict.{accepted-says, looping-says, reached-bounded}
 use Rattle.laws_format.proofs.Bytes.{read-well-formed}
+use Rattle.laws_stages.proofs.Verdict.{accepted-says, looping-says, reached-bounded}
 use Rattle.laws_tables.proofs.Refusals.{Excessive, verdict-excessive}
 use Rattle.laws_tables.proofs.Courses.{Course, short, faulty, judged, course, left-verdict}
 use Rattle.laws_tables.proofs.Lines.{Ascii}

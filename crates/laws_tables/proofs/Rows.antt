@@ -9,8 +9,8 @@ use lib.ListN.{length, getD, take, drop, replicate, length-append, length-drop, 
 use lib.Seq.{take-at, drop-at, drop-drop}
 use Rattle.model.specs.Lists.{collect, padded, row}
 use Rattle.model.specs.Tables.{fronted}
-pub use Rattle.laws.proofs.Places.{length-padded}
-use Rattle.laws_stages.proofs.Lists.{mem-replicate}
+use Rattle.laws.proofs.Places.{length-padded}
+use Rattle.laws.proofs.Lists.{mem-replicate}
 
 -- the first row, and the rows after it
 

@@ -16,14 +16,15 @@ use Rattle.model.specs.Stages.{stage}
 use Rattle.model.specs.Tables.{number, termRow}
 use Rattle.laws.proofs.Lists.{eqb-decides, index-mem, getD-mem}
 use Rattle.laws.proofs.Terms.{number-append}
+use Rattle.laws_stages.specs.Reached.{Reached}
 use Rattle.laws_stages.proofs.Growth.{stage-zero-terms, arguments-in-terms}
 use Rattle.laws_stages.proofs.Arities.{facts-well-formed, arguments-range}
 use Rattle.laws_stages.proofs.Order.{Invented, Proper, proper-star, proper-skolem, Ordered, terms-from, terms-proper, terms-ordered}
+use Rattle.laws_stages.proofs.Verdict.{reached-facts-within, reached-terms-within}
 use Rattle.laws_tables.proofs.Numbering.{number-below, getD-number}
 use Rattle.laws_tables.proofs.Terms.{Recordable, plain, marked, TermList}
 use Rattle.laws_tables.proofs.Recorded.{Recorded}
 use Rattle.laws_tables.proofs.Fronts.{Within}
-use Rattle.laws_stages.proofs.Verdict.{Reached, reached-facts-within, reached-terms-within}
 use Rattle.laws_tables.proofs.Functions.{lastFunction-bounded}
 
 star-plain : (ts : List Term) (i : ℕ) → Recordable (λ j. star) ts i star

@@ -12,7 +12,8 @@ use Rattle.model.specs.Stages.{Verdict, accepted, looping, refused}
 use Rattle.model.specs.Tables.{Checked}
 use Rattle.model.specs.Text.{line, lines, acceptedWord, cyclicWord, refusedWord, termWord, factWord, loopWord, termNumbers, factNumbers, records, text, declared, textOf}
 use Rattle.laws.proofs.Lists.{all-mem}
-use Rattle.laws_tables.proofs.Lines.{Ascii, append-ascii, line-ascii, lines-ascii, spaced, length-line, length-spaced-cons, length-spaced-most, length-spaced, length-lines}
+use Rattle.laws_tables.specs.Lines.{spaced}
+use Rattle.laws_tables.proofs.Lines.{Ascii, append-ascii, line-ascii, lines-ascii, length-line, length-spaced-cons, length-spaced-most, length-spaced, length-lines}
 
 word-ascii : (word : List ℕ) → all (λ (x : ℕ). ltb x 128) word ≡ true → Ascii word
 word-ascii word h x m = ltb-true x 128 (all-mem (λ (x : ℕ). ltb x 128) h m)

@@ -2,11 +2,11 @@
 -- attempts. Assumes nothing.
 use mathlib.Core.List.{List, [], _∷_}
 use mathlib.Core.Bool.{Bool, true, false, _&&_, _||_, not}
-use Prim.Native.Nat.{ℕ, zero, suc}
+use Prim.Native.Nat.{ℕ, suc}
 use lib.ListN.{getD, drop}
 use Rattle.model.specs.Lists.{all, any, extend}
 use Rattle.model.specs.Term.{Term, star, same}
-use Rattle.model.specs.Rules.{Atom, Rule, RuleSet, Disjunct, Entry, entries, universal, datalog}
+use Rattle.model.specs.Rules.{Atom, RuleSet, Disjunct, Entry, entries, universal, datalog}
 use Rattle.model.specs.Triggers.{Fact, sameFact, present, termsOf, assign, instantiate, triggers, headFacts}
 
 -- document 01: a try. A rule number, a term for each variable number, a disjunct number, freely picked. A variable whose term is missing

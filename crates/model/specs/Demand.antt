@@ -2,16 +2,16 @@
 -- the answer and the tables of `check`. Assumes nothing.
 use mathlib.Core.Path.{_≡_}
 use mathlib.Core.List.{List, [], _∷_, map, List·Memᴰ}
-use mathlib.Core.Bool.{Bool, true, false}
-use Prim.Native.Nat.{ℕ, zero, suc, _+_, _^_, _≤_, _<_}
+use mathlib.Core.Bool.{false}
+use Prim.Native.Nat.{ℕ, _+_, _^_, _≤_, _<_}
 use lib.ListN.{length, getD}
 use Rattle.model.specs.Lists.{any, extend}
 use Rattle.model.specs.Term.{Term, star, constant, same, starred, stars, cyclic}
 use Rattle.model.specs.Rules.{RuleSet}
-use Rattle.model.specs.Format.{Parsed, good, read}
+use Rattle.model.specs.Format.{good, read}
 use Rattle.model.specs.Triggers.{Fact, termsOf}
-use Rattle.model.specs.Stages.{Verdict, accepted}
-use Rattle.model.specs.Tables.{Checked, checked}
+use Rattle.model.specs.Stages.{accepted}
+use Rattle.model.specs.Tables.{checked}
 use Rattle.model.specs.Spelled.{spelledFacts}
 use Rattle.model.specs.Chase.{Attempt, State, chase, initial}
 

@@ -12,7 +12,7 @@ use lib.ListN.{length, getD, drop}
 use Rattle.model.specs.Limits.{predicateLimit, factWidth}
 use Rattle.model.specs.Lists.{collect, padded, numbersFrom}
 use Rattle.model.specs.Rules.{Atom, Rule, RuleSet}
-use Rattle.model.specs.Format.{Parsed, good, bad, read, ruleSet, bytesOf}
+use Rattle.model.specs.Format.{good, bad, read, ruleSet, bytesOf}
 
 abbrev pub groupWidth : ℕ
 groupWidth = 21

@@ -1,9 +1,8 @@
 -- The published notions, as inductive definitions (001, Definitions 3 and 4; 004, Definitions 39 to 50). `Blocking` and `Stages` compute them.
 -- Assumes nothing.
 use mathlib.Core.Path.{_≡_}
-use mathlib.Core.List.{List, [], _∷_, List·Memᴰ}
-use mathlib.Core.Bool.{Bool, true, false}
-use Prim.Native.Nat.{ℕ}
+use mathlib.Core.List.{List, List·Memᴰ}
+use mathlib.Core.Bool.{true, false}
 use lib.ListN.{length}
 use Rattle.model.specs.Term.{Term}
 use Rattle.model.specs.Rules.{Atom, Rule, RuleSet, Disjunct, Entry, entries, universal, datalog}

@@ -1,14 +1,14 @@
 -- What the check leaves in the caller's two tables (document 01, "Lent lists"). Assumes nothing.
 use mathlib.Core.List.{List, [], _∷_, _++_, map}
-use mathlib.Core.Bool.{Bool, true, false, _&&_}
-use Prim.Native.Nat.{ℕ, zero, suc, _-_}
+use mathlib.Core.Bool.{true, false, _&&_}
+use Prim.Native.Nat.{ℕ, _-_}
 use lib.Dec.{leb}
 use lib.ListN.{length, take, drop, replicate}
 use Rattle.model.specs.Limits.{termWidth, termsFront, factsFront}
 use Rattle.model.specs.Lists.{collect, index, padded}
-use Rattle.model.specs.Term.{Term, Terms, star, constant, apart, fresh, skolem, list, same}
+use Rattle.model.specs.Term.{Term, star, constant, apart, fresh, skolem, list, same}
 use Rattle.model.specs.Rules.{RuleSet, entries}
-use Rattle.model.specs.Format.{Parsed, good, bad, read}
+use Rattle.model.specs.Format.{good, bad, read}
 use Rattle.model.specs.Triggers.{Fact}
 use Rattle.model.specs.Stages.{Stage, stage, Verdict, accepted, looping, refused, verdict, cyclicTerms}
 

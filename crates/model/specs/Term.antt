@@ -1,7 +1,7 @@
 -- Terms of every kind that the definitions speak of, in one type, so that triggers and outputs are defined once (001, section 2).
 -- Assumes nothing.
 use mathlib.Core.List.{List, [], _∷_, _++_}
-use mathlib.Core.Bool.{Bool, true, false, _&&_, _||_}
+use mathlib.Core.Bool.{Bool, true, false, _||_}
 use Prim.Native.Nat.{ℕ, _+_}
 use native.Mathlib.Decide.{ℕ-discrete}
 use Rattle.model.specs.Lists.{member}

@@ -1,13 +1,12 @@
 -- The text of an answer (document 01, "River and Lake"), as bytes. Every line ends in a newline. Assumes nothing.
 use mathlib.Core.List.{List, [], _∷_, _++_}
-use mathlib.Core.Bool.{Bool, true, false}
+use mathlib.Core.Bool.{true, false}
 use Prim.Native.Nat.{ℕ, zero, suc, _+_, _/_, _%_}
 use lib.Dec.{ltb}
 use lib.ListN.{getD, take, drop, replicate}
 use Rattle.model.specs.Limits.{termWidth, inputLimit, termsFront, factsFront}
 use Rattle.model.specs.Lists.{collect, row}
-use Rattle.model.specs.Rules.{RuleSet}
-use Rattle.model.specs.Format.{Parsed, good, bad, read}
+use Rattle.model.specs.Format.{good, bad, read}
 use Rattle.model.specs.Stages.{Verdict, accepted, looping, refused}
 use Rattle.model.specs.Tables.{Checked, checked}
 

@@ -1,7 +1,7 @@
 -- Well-formed rule sets: what is left when refusals 4 to 9 are excluded (document 01, "Turned back"; 001, Definition 1). Assumes nothing.
 use mathlib.Core.Path.{_≡_}
 use mathlib.Core.List.{List, List·Memᴰ}
-use mathlib.Core.Bool.{Bool, true, false}
+use mathlib.Core.Bool.{false}
 use Prim.Native.Nat.{ℕ, _≤_, _<_}
 use lib.ListN.{length, getD}
 use Rattle.model.specs.Limits.{predicateLimit, ruleLimit}

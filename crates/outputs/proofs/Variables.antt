@@ -1,23 +1,21 @@
 -- Laws of sets of variables taken in rising order, and of Skolem rows filled so. Assumes nothing.
-use mathlib.Core.Path.{_≡_, refl, sym, ap, _∙_, subst}
+use mathlib.Core.Path.{_≡_, refl, sym, ap, _∙_}
 use mathlib.Core.Bool.{Bool, true, false}
-use mathlib.Core.List.{List, [], _∷_, _++_, map, map-append, append-assoc, append-nil, List·Memᴰ, List·Memᴰ·head, List·Memᴰ·tail, List·Memᴰ·not-nil, List·Memᴰ·cases-cons}
+use mathlib.Core.List.{List, [], _∷_, _++_, map, map-append, append-nil, List·Memᴰ, List·Memᴰ·head, List·Memᴰ·tail, List·Memᴰ·not-nil, List·Memᴰ·cases-cons}
 use mathlib.Core.Logic.{_⊎_, inl, inr, ⊎-elim}
 use Prim.Native.Nat.{ℕ, zero, suc, _+_, _-_, _≤_, _<_}
 use native.Mathlib.Nat.{add-zero, add-suc, suc-add, zero-add}
-use native.Mathlib.Numerals.{add-one}
 use native.Mathlib.Omega.{arith}
 use lib.Dec.{eqb}
-use lib.ListN.{length, getD, set, length-append}
+use lib.ListN.{length, set}
 use borrow.Author.Tests.{eq-eqb, ne-eqb}
 use Rattle.model.specs.Lists.{keep, index, padded}
-use Rattle.model.specs.Rules.{names}
 use Rattle.laws.proofs.Bools.{case}
 use Rattle.laws.proofs.Lists.{keep-yes, keep-no, keep-mem, index-here, index-there, eqb-decides}
-use Rattle.rows.specs.Triggers.{rising}
-use Rattle.form.specs.Sets.{has, elements}
+use Rattle.laws.specs.Lists.{rising}
+use Rattle.form_variables.specs.Sets.{has, elements}
 use Rattle.outputs.specs.Skolem.{functionWith, templateWith, placed}
-use Rattle.outputs.proofs.Rows.{padded-more}
+use Rattle.facts.proofs.Rows.{padded-more}
 
 -- numbers in rising order
 

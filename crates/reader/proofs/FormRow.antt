@@ -12,12 +12,13 @@ use Rattle.model.specs.Rules.{Rule, RuleSet}
 use Rattle.model.specs.Format.{Parsed, good, many, byte, ruleSet}
 use Rattle.model.specs.Form.{ruleRow, encoded}
 use Rattle.laws_format.proofs.Format.{andThen-assoc}
-use Rattle.reader.specs.Step.{zeros, Filled, none, Arities, parsedRules, rulesRow, afterArities}
-use Rattle.reader.specs.declared.Step.{Step}
-use Rattle.reader.specs.declared.Step.the-variants.{Good, Bad}
-use Rattle.reader.proofs.Lists.{zeros-suc, length-zeros, zeros-length, drop-zeros, take-zeros, padded-zeros}
-use Rattle.reader.proofs.Parsing.{continues, filled-good, filled-bad, byte-good}
-use Rattle.reader.proofs.Many.{many-length, many-at}
+use Rattle.parsing.specs.Step.{zeros, Filled, none, Arities, parsedRules}
+use Rattle.reader.specs.Parts.{rulesRow, afterArities}
+use Rattle.parsing.specs.declared.Step.{Step}
+use Rattle.parsing.specs.declared.Step.the-variants.{Good, Bad}
+use Rattle.parsing.proofs.Lists.{zeros-suc, length-zeros, zeros-length, drop-zeros, take-zeros, padded-zeros}
+use Rattle.parsing.proofs.Parsing.{continues, filled-good, filled-bad, byte-good}
+use Rattle.parsing.proofs.Many.{many-length, many-at}
 
 -- the lists that the form goes through: the count is set, the arities are copied, the rules are filled
 

@@ -7,7 +7,7 @@ use Rattle.laws_format.proofs.RoundTrip.{reading-good}
 use borrow.Author.Tests.{le-leb, lt-leb, eq-eqb, ne-eqb}
 use Rattle.model.specs.Rules.{RuleSet}
 use Rattle.model.specs.Format.{good, bad, stated, ruleSet, read}
-use Rattle.model.specs.Form.{Reading, done, encoded, reading}
+use Rattle.model.specs.Form.{done, encoded, reading}
 
 module _ (bs : List ℕ) where
   pub read-short : length bs < 4 → read bs ≡ bad 2 0

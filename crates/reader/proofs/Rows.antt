@@ -1,21 +1,17 @@
 -- The rows that the parsers of an atom, of atoms and of a rule fill. Assumes nothing.
 use mathlib.Core.Path.{_≡_, refl, sym, ap, _∙_}
-use mathlib.Core.List.{List, [], _∷_, _++_, append-nil}
+use mathlib.Core.List.{List, _∷_, _++_}
 use Prim.Native.Nat.{ℕ, suc, _-_}
 use lib.ListN.{length, getD, take, drop, set}
-use lib.Bits.{bitOr}
 use Rattle.model.specs.Lists.{padded, collect}
-use Rattle.model.specs.Rules.{Atom, variablesOf}
 use Rattle.model.specs.Format.{Parsed, good, many, byte, variable, atom, atoms}
 use Rattle.model.specs.Form.{atomRow, group}
-use Rattle.form.specs.Sets.{setOf}
-use Rattle.reader.specs.Step.{zeros, Filled, atomSet, atomsSet}
-use Rattle.reader.specs.declared.Step.{Step}
-use Rattle.laws.proofs.Lists.{collect-append}
-use Rattle.form.proofs.Sets.{setOf-append}
-use Rattle.reader.proofs.Lists.{tail-length, headed-filled}
-use Rattle.reader.proofs.Parsing.{continues, maps, refill}
-use Rattle.reader.proofs.Many.{many-length}
+use Rattle.form_variables.specs.Sets.{setOf}
+use Rattle.parsing.specs.Step.{zeros, Filled, atomSet, atomsSet}
+use Rattle.parsing.specs.declared.Step.{Step}
+use Rattle.parsing.proofs.Lists.{tail-length, headed-filled}
+use Rattle.parsing.proofs.Parsing.{continues, maps, refill}
+use Rattle.parsing.proofs.Many.{many-length}
 
 pub atom-filled : (bs arities : List ℕ) (i p j : ℕ) (row left : List ℕ) (r : Step) → byte bs 0 (length arities - 1) 7 i ≡ good p j → row ≡ zeros 5
     → Filled setOf (padded (length (take (length (set row 0 p) - 1) (drop 1 (set row 0 p))))) (many (getD arities p 0) (variable bs) j) r left
@@ -26,13 +22,6 @@ atom-filled bs arities i p j row left r e z h =
     (maps (λ (vs : List ℕ). record { predicate = p; variables = vs }) setOf atomSet _ atomRow _ r left _ (λ vs. refl)
     (λ vs s. headed-filled 4 row p z vs left (s ∙ ap (λ (m : ℕ). padded m vs) (tail-length 4 row p z)))
     h)
-
-pub atomsSet-more : (s v : ℕ) (a : Atom) → atomSet a ≡ v → (as' : List Atom) → atomsSet as' ≡ s → atomsSet (as' ++ (a ∷ [])) ≡ bitOr s v
-unfolding variablesOf collect
-atomsSet-more s v a e as' f =
-    ap setOf (collect-append (λ (x : Atom). x .variables) as' (a ∷ []))
-    ∙ setOf-append (variablesOf as') (a .variables ++ [])
-    ∙ rw (append-nil, e, f)
 
 -- a count, and so many values in the places after it
 pub counted-filled : {A : Type 0} (keep : List A → ℕ) (row : A → List ℕ) (p : ℕ → Parsed A) (m n j : ℕ) (place left : List ℕ) (r : Step) → place ≡ zeros (suc m)

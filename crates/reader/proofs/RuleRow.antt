@@ -10,14 +10,15 @@ use Rattle.model.specs.Lists.{padded, collect}
 use Rattle.model.specs.Rules.{Atom}
 use Rattle.model.specs.Format.{good, bad, many, byte, atoms, rule}
 use Rattle.model.specs.Form.{group, ruleRow}
-use Rattle.reader.specs.Step.{zeros, Filled, none, parsedRules, rulesRow}
-use Rattle.reader.specs.Heads.{fault}
-use Rattle.reader.specs.declared.Step.{Step}
-use Rattle.reader.specs.declared.Step.the-variants.{Good, Bad}
-use Rattle.reader.proofs.Lists.{zeros-suc, length-zeros, drop-zeros, take-zeros, padded-zeros}
-use Rattle.reader.proofs.Parsing.{continues, filled-good, filled-bad}
+use Rattle.parsing.specs.Step.{zeros, Filled, none, parsedRules}
+use Rattle.reader.specs.Parts.{rulesRow}
+use Rattle.parsing.specs.Heads.{fault}
+use Rattle.parsing.specs.declared.Step.{Step}
+use Rattle.parsing.specs.declared.Step.the-variants.{Good, Bad}
+use Rattle.parsing.proofs.Lists.{zeros-suc, length-zeros, drop-zeros, take-zeros, padded-zeros}
+use Rattle.parsing.proofs.Parsing.{continues, filled-good, filled-bad}
 use Rattle.reader.proofs.Rows.{counted-filled}
-use Rattle.reader.proofs.Heads.{of, sound-good, sound-bad}
+use Rattle.parsing.proofs.Heads.{of, sound-good, sound-bad}
 
 -- the lists that the row goes through: the body is filled, the count is set, the disjuncts are filled
 

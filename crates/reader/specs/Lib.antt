@@ -1,3 +1,2 @@
-pub mod Step
-pub mod Heads
+pub mod Parts
 pub mod Transfer

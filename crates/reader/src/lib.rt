@@ -1,56 +1,39 @@
 // The reader of rule sets: from bytes to a form (document 01: book bytes, book form). The parsers of model's `Format`, one function each: each
-// answers the step of the definition's answer, and writes what it read into a row of zeros that its caller lends. What it shares with the
-// writer is public. The contracts cite specs/Step and specs/Transfer.
-pub mod faults;
-
+// answers the step of the definition's answer, and writes what it read into a row of zeros that its caller lends. The contracts cite
+// parsing's Step, specs/Parts and specs/Transfer.
+use form::layout::ATOM_WIDTH;
+use form::layout::GROUP_WIDTH;
+use form::layout::LENGTH;
+use form::layout::RULE_WIDTH;
+use parsing::Step;
+use parsing::byte;
+use parsing::faults::Disjuncts;
+use parsing::variable;
 ghost use mathlib.Core.Path.{_≡_};
 ghost use mathlib.Core.List.{List, _++_};
-ghost use Prim.Native.Nat.{_+_, _-_, _≤_, _<_};
+ghost use Prim.Native.Nat.{suc, _+_, _*_, _≤_, _<_};
 ghost use lib.ListN.{length, drop};
 ghost use Rattle.model.specs.Lists.{padded, collect};
 ghost use Rattle.model.specs.Rules.{Atom};
 ghost use Rattle.model.specs.Format.{many};
-ghost use Rattle.model.specs.Form.{atomRow, group, ruleRow, encoded, reading};
+ghost use Rattle.model.specs.Limits.{factWidth, ruleLimit};
+ghost use Rattle.model.specs.Form.{groupWidth, ruleWidth, rulesLength, formLength, atomRow, group, ruleRow, encoded, reading};
 ghost use Rattle.model.specs.Format as format;
-ghost use Rattle.reader.specs.Step.{stepOf, value, none, parsedRules, rulesRow, afterArities, zeros, Filled, Arities, atomSet, atomsSet};
+ghost use Rattle.form_variables.specs.Sets.{setOf};
+ghost use Rattle.parsing.specs.Step.{none, parsedRules, zeros, Filled, Arities, atomSet, atomsSet};
+ghost use Rattle.parsing.specs.Heads.{fault as faulty};
+ghost use Rattle.reader.specs.Parts.{rulesRow, afterArities};
 ghost use Rattle.reader.specs.Transfer.{transferOf};
-ghost use Rattle.form.specs.Sets.{setOf};
-ghost use Rattle.reader.specs.Heads.{fault as faulty};
 
-// What a parser answers: a value and where to go on, or a refusal and its place.
-pub enum Step {
-    Good(u8, usize),
-    Bad(u8, usize),
-}
+// The place of a rule's disjuncts in its row, and that of the arities in a form, which are its last 64 numbers.
+const HEAD_PLACE: usize = 1 + GROUP_WIDTH;
+
+const ARITIES_PLACE: usize = LENGTH - 64;
 
 // What `read` and `write` answer: how many bytes were read or written, or a refusal and its place.
 pub enum Transfer {
     Done(usize),
     Refusal(u8, usize),
-}
-
-// A byte from low to high at i.
-pub fn byte(bytes: &[u8], low: u8, high: u8, refusal: u8, i: usize) -> Step
-    ensures { λ r. ⌜ r ≡ stepOf value (format.byte (now (bytes .entry)) low high refusal i) ⌝ }
-{
-    if bytes.len() <= i {
-        return Step::Bad(10, bytes.len());
-    }
-    let b = bytes[i];
-    if b < low {
-        return Step::Bad(refusal, i);
-    }
-    if high < b {
-        return Step::Bad(refusal, i);
-    }
-    Step::Good(b, i + 1)
-}
-
-// A variable of an atom: C-16 widens this reading alone.
-pub fn variable(bytes: &[u8], i: usize) -> Step
-    ensures { λ r. ⌜ r ≡ stepOf value (format.variable (now (bytes .entry)) i) ⌝ }
-{
-    byte(bytes, 0, 7, 7, i)
 }
 
 // n variables into the front of a row of zeros; the value is their set.
@@ -77,10 +60,10 @@ fn variables(bytes: &[u8], n: usize, i: usize, row: &mut [u16]) -> Step
     Step::Good(set, at)
 }
 
-// An atom into a row of five zeros; the value is the set of its variables.
+// An atom into a row of zeros; the value is the set of its variables.
 fn atom(bytes: &[u8], arities: &[u16], i: usize, row: &mut [u16]) -> Step
     requires { ⌜ Arities (now arities) ⌝ }
-    requires { ⌜ now row ≡ zeros 5 ⌝ }
+    requires { ⌜ now row ≡ zeros factWidth ⌝ }
     ensures { λ r. ⌜ Filled atomSet atomRow (format.atom (now (bytes .entry)) (now (arities .entry)) i) r (now (row .exit)) ⌝ }
 {
     let head = byte(bytes, 0, (arities.len() - 1) as u8, 7, i);
@@ -92,22 +75,22 @@ fn atom(bytes: &[u8], arities: &[u16], i: usize, row: &mut [u16]) -> Step
     variables(bytes, n, j, &mut row[1..])
 }
 
-// n atoms into the front of 20 zeros; the value is the set of their variables.
+// n atoms into the front of a row of zeros; the value is the set of their variables.
 fn many_atoms(bytes: &[u8], arities: &[u16], n: usize, i: usize, rows: &mut [u16]) -> Step
     requires { ⌜ Arities (now arities) ⌝ }
-    requires { ⌜ (n ≤ 4) × (now rows ≡ zeros 20) ⌝ }
-    ensures { λ r. ⌜ Filled atomsSet (λ as'. padded 20 (collect atomRow as')) (many n (format.atom (now (bytes .entry)) (now (arities .entry))) i) r (now (rows .exit)) ⌝ }
+    requires { ⌜ (n ≤ 4) × (now rows ≡ zeros (4 * factWidth)) ⌝ }
+    ensures { λ r. ⌜ Filled atomsSet (λ as'. padded (4 * factWidth) (collect atomRow as')) (many n (format.atom (now (bytes .entry)) (now (arities .entry))) i) r (now (rows .exit)) ⌝ }
 {
     let mut set: u8 = 0;
     let mut at = i;
     let mut from = 0;
     let mut k = 0;
     while k < n {
-        match atom(bytes, arities, at, &mut rows[from..from + 5]) {
+        match atom(bytes, arities, at, &mut rows[from..from + ATOM_WIDTH]) {
             Step::Good(variables, next) => {
                 set = set | variables;
                 at = next;
-                from += 5;
+                from += ATOM_WIDTH;
                 k += 1;
             }
             Step::Bad(refusal, place) => {
@@ -118,10 +101,10 @@ fn many_atoms(bytes: &[u8], arities: &[u16], n: usize, i: usize, rows: &mut [u16
     Step::Good(set, at)
 }
 
-// A count of one to four, and so many atoms, into a row of 21 zeros; the value is the set of their variables.
+// A count of one to four, and so many atoms, into a row of zeros; the value is the set of their variables.
 fn atoms(bytes: &[u8], arities: &[u16], i: usize, row: &mut [u16]) -> Step
     requires { ⌜ Arities (now arities) ⌝ }
-    requires { ⌜ now row ≡ zeros 21 ⌝ }
+    requires { ⌜ now row ≡ zeros groupWidth ⌝ }
     ensures { λ r. ⌜ Filled atomsSet group (format.atoms (now (bytes .entry)) (now (arities .entry)) i) r (now (row .exit)) ⌝ }
 {
     let count = byte(bytes, 1, 4, 6, i);
@@ -132,7 +115,7 @@ fn atoms(bytes: &[u8], arities: &[u16], i: usize, row: &mut [u16]) -> Step
     many_atoms(bytes, arities, n as usize, j, &mut row[1..])
 }
 
-// n disjuncts into the front of 84 zeros; the value is the fault of the rule that has them, by the set of its body's variables.
+// n disjuncts into the front of a row of zeros; the value is the fault of the rule that has them, by the set of its body's variables.
 fn many_disjuncts(
     bytes: &[u8],
     arities: &[u16],
@@ -142,24 +125,19 @@ fn many_disjuncts(
     rows: &mut [u16],
 ) -> Step
     requires { ⌜ Arities (now arities) ⌝ }
-    requires { ⌜ (n ≤ 4) × (now rows ≡ zeros 84) ⌝ }
-    ensures { λ r. ⌜ ((b : List Atom) → body ≡ atomsSet b → Filled (λ ds. faulty (record { body = b; head = ds })) (λ ds. padded 84 (collect group ds)) (many n (format.atoms (now (bytes .entry)) (now (arities .entry))) i) r (now (rows .exit))) ⌝ }
+    requires { ⌜ (n ≤ 4) × (now rows ≡ zeros (4 * groupWidth)) ⌝ }
+    ensures { λ r. ⌜ ((b : List Atom) → body ≡ atomsSet b → Filled (λ ds. faulty (record { body = b; head = ds })) (λ ds. padded (4 * groupWidth) (collect group ds)) (many n (format.atoms (now (bytes .entry)) (now (arities .entry))) i) r (now (rows .exit))) ⌝ }
 {
-    let mut seen: u8 = 0;
-    let mut again: u8 = 0;
-    let mut apart: u8 = 0;
+    let mut heads = Disjuncts::none();
     let mut at = i;
     let mut from = 0;
     let mut k = 0;
     while k < n {
-        match atoms(bytes, arities, at, &mut rows[from..from + 21]) {
+        match atoms(bytes, arities, at, &mut rows[from..from + GROUP_WIDTH]) {
             Step::Good(set, next) => {
-                let new = set & !body;
-                again = again | seen & new;
-                seen = seen | new;
-                apart = apart | faults::lacks(set & body);
+                heads = heads.with(set, body);
                 at = next;
-                from += 21;
+                from += GROUP_WIDTH;
                 k += 1;
             }
             Step::Bad(refusal, place) => {
@@ -167,16 +145,16 @@ fn many_disjuncts(
             }
         }
     }
-    Step::Good(faults::fault(again, apart), at)
+    Step::Good(heads.refusal(), at)
 }
 
-// A rule into a row of 106 zeros, 8 and then 9 tested after its last byte.
+// A rule into a row of zeros, 8 and then 9 tested after its last byte.
 fn rule(bytes: &[u8], arities: &[u16], i: usize, row: &mut [u16]) -> Step
     requires { ⌜ Arities (now arities) ⌝ }
-    requires { ⌜ now row ≡ zeros 106 ⌝ }
+    requires { ⌜ now row ≡ zeros ruleWidth ⌝ }
     ensures { λ r. ⌜ Filled none ruleRow (format.rule (now (bytes .entry)) (now (arities .entry)) i) r (now (row .exit)) ⌝ }
 {
-    let body = atoms(bytes, arities, i, &mut row[1..22]);
+    let body = atoms(bytes, arities, i, &mut row[1..HEAD_PLACE]);
     let Step::Good(set, j) = body else {
         return body;
     };
@@ -185,7 +163,7 @@ fn rule(bytes: &[u8], arities: &[u16], i: usize, row: &mut [u16]) -> Step
         return count;
     };
     row[0] = n as u16;
-    let head = many_disjuncts(bytes, arities, set, n as usize, k, &mut row[22..]);
+    let head = many_disjuncts(bytes, arities, set, n as usize, k, &mut row[HEAD_PLACE..]);
     let Step::Good(refusal, end) = head else {
         return head;
     };
@@ -195,20 +173,20 @@ fn rule(bytes: &[u8], arities: &[u16], i: usize, row: &mut [u16]) -> Step
     Step::Good(0, end)
 }
 
-// n rules into the front of 6784 zeros.
+// n rules into the front of a row of zeros.
 fn many_rules(bytes: &[u8], arities: &[u16], n: usize, i: usize, rows: &mut [u16]) -> Step
     requires { ⌜ Arities (now arities) ⌝ }
-    requires { ⌜ (n ≤ 64) × (now rows ≡ zeros 6784) ⌝ }
-    ensures { λ r. ⌜ Filled none (λ rs. padded 6784 (collect ruleRow rs)) (many n (format.rule (now (bytes .entry)) (now (arities .entry))) i) r (now (rows .exit)) ⌝ }
+    requires { ⌜ (n ≤ ruleLimit) × (now rows ≡ zeros rulesLength) ⌝ }
+    ensures { λ r. ⌜ Filled none (λ rs. padded rulesLength (collect ruleRow rs)) (many n (format.rule (now (bytes .entry)) (now (arities .entry))) i) r (now (rows .exit)) ⌝ }
 {
     let mut at = i;
     let mut from = 0;
     let mut k = 0;
     while k < n {
-        match rule(bytes, arities, at, &mut rows[from..from + 106]) {
+        match rule(bytes, arities, at, &mut rows[from..from + RULE_WIDTH]) {
             Step::Good(_, next) => {
                 at = next;
-                from += 106;
+                from += RULE_WIDTH;
                 k += 1;
             }
             Step::Bad(refusal, place) => {
@@ -219,10 +197,10 @@ fn many_rules(bytes: &[u8], arities: &[u16], n: usize, i: usize, rows: &mut [u16
     Step::Good(0, at)
 }
 
-// A count of at most 64, and so many rules, into a row of 6785 zeros.
+// A count of at most 64, and so many rules, into a row of zeros.
 fn rules(bytes: &[u8], arities: &[u16], i: usize, row: &mut [u16]) -> Step
     requires { ⌜ Arities (now arities) ⌝ }
-    requires { ⌜ now row ≡ zeros 6785 ⌝ }
+    requires { ⌜ now row ≡ zeros (suc rulesLength) ⌝ }
     ensures { λ r. ⌜ Filled none rulesRow (parsedRules (now (bytes .entry)) (now (arities .entry)) i) r (now (row .exit)) ⌝ }
 {
     let count = byte(bytes, 0, 64, 5, i);
@@ -270,12 +248,12 @@ fn copy(from: &[u16], to: &mut [u16])
 // What follows the arities, with them, into a form of zeros.
 fn after_arities(bytes: &[u8], arities: &[u16], i: usize, form: &mut [u16]) -> Step
     requires { ⌜ Arities (now arities) ⌝ }
-    requires { ⌜ now form ≡ zeros 6850 ⌝ }
+    requires { ⌜ now form ≡ zeros formLength ⌝ }
     ensures { λ r. ⌜ Filled none encoded (afterArities (now (bytes .entry)) (now (arities .entry)) i) r (now (form .exit)) ⌝ }
 {
     form[0] = arities.len() as u16;
-    copy(arities, &mut form[6786..]);
-    let read = rules(bytes, arities, i, &mut form[1..6786]);
+    copy(arities, &mut form[ARITIES_PLACE..]);
+    let read = rules(bytes, arities, i, &mut form[1..ARITIES_PLACE]);
     let Step::Good(_, end) = read else {
         return read;
     };
@@ -287,7 +265,7 @@ fn after_arities(bytes: &[u8], arities: &[u16], i: usize, form: &mut [u16]) -> S
 
 // Refusals 3 to 10: what follows the length, into a form of zeros.
 fn rule_set(bytes: &[u8], form: &mut [u16]) -> Step
-    requires { ⌜ now form ≡ zeros 6850 ⌝ }
+    requires { ⌜ now form ≡ zeros formLength ⌝ }
     ensures { λ r. ⌜ Filled none encoded (format.ruleSet (now (bytes .entry))) r (now (form .exit)) ⌝ }
 {
     let version = byte(bytes, 1, 1, 3, 4);
@@ -319,7 +297,7 @@ fn stated(bytes: &[u8]) -> usize
 pub fn read(bytes: &[u8], form: &mut [u16]) -> Transfer
     ensures { λ r. ⌜ reading (now (bytes .entry)) (now (form .entry)) ≡ record { answer = transferOf r; form = now (form .exit) } ⌝ }
 {
-    if form.len() < 6850 {
+    if form.len() < LENGTH {
         return Transfer::Refusal(1, 0);
     }
     if bytes.len() < 4 {
@@ -328,7 +306,7 @@ pub fn read(bytes: &[u8], form: &mut [u16]) -> Transfer
     if stated(bytes) + 4 != bytes.len() {
         return Transfer::Refusal(2, 0);
     }
-    let mut local = [0u16; 6850];
+    let mut local = [0u16; LENGTH];
     match rule_set(bytes, &mut local[..]) {
         Step::Good(_, end) => {
             copy(&local[..], form);

@@ -1,9 +1,9 @@
 -- The arities that a form has, and that the text of an answer depends on them number by number. Assumes nothing.
 use mathlib.Core.Path.{_≡_, refl, ap, _∙_, fun-ext}
 use mathlib.Core.List.{List, [], _∷_, _++_, append-assoc}
-use Prim.Native.Nat.{ℕ, zero, suc, _-_, _≤_}
+use Prim.Native.Nat.{ℕ, _≤_}
 use native.Mathlib.Omega.{arith}
-use lib.ListN.{length, getD, take, drop, replicate, length-append, length-take, length-drop}
+use lib.ListN.{length, getD, take, drop, length-append, length-take, length-drop}
 use lib.Seq.{take-at, drop-at}
 use Rattle.model.specs.Lists.{collect, padded, row}
 use Rattle.model.specs.Rules.{RuleSet}
@@ -12,30 +12,16 @@ use Rattle.model.specs.Format.{Parsed, good, bad, read}
 use Rattle.model.specs.Form.{formLength, aritiesPlace, ruleRow, encoded, Reading, reading}
 use Rattle.model.specs.Stages.{Verdict, accepted, looping, refused}
 use Rattle.model.specs.Text.{line, lines, acceptedWord, cyclicWord, factWord, loopWord, termNumbers, factNumbers, records, text}
+use Rattle.laws.proofs.Places.{length-padded, getD-padded}
 use Rattle.laws_format.proofs.Bytes.{read-well-formed}
 use Rattle.laws_format.proofs.Form.{encoded-length}
 use Rattle.laws_format.proofs.RoundTrip.{reading-bad, reading-good}
-use Rattle.laws_tables.proofs.Rows.{length-padded}
-use Rattle.report.specs.Lines.{termLines}
+use Rattle.text.specs.Lines.{termLines}
 
 -- a list that has the arities of the rule set in the bytes, if there is one
 pub record Declares (bytes arities : List ℕ) : Type 0 where
   pub room : 64 ≤ length arities
   pub same : (b : RuleSet) (i : ℕ) → read bytes ≡ good b i → (p : ℕ) → getD arities p 0 ≡ getD (b .arities) p 0
-
-getD-zeros : (n p : ℕ) → _≡_ {A = ℕ} (getD (replicate n 0) p 0) 0
-getD-zeros zero p = refl
-getD-zeros (suc n) zero = refl
-getD-zeros (suc n) (suc p) = getD-zeros n p
-
-getD-more-zeros : (xs : List ℕ) (n p : ℕ) → getD (xs ++ replicate n 0) p 0 ≡ getD xs p 0
-getD-more-zeros [] n p = getD-zeros n p
-getD-more-zeros (x ∷ xs) n zero = refl
-getD-more-zeros (x ∷ xs) n (suc p) = getD-more-zeros xs n p
-
-getD-padded : (n : ℕ) (xs : List ℕ) (p : ℕ) → getD (padded n xs) p 0 ≡ getD xs p 0
-unfolding padded
-getD-padded n xs p = getD-more-zeros xs (n - length xs) p
 
 -- the last 64 numbers of a form
 encoded-arities : (b : RuleSet) → WellFormed b → (rest : List ℕ) → take 64 (drop aritiesPlace (encoded b ++ rest)) ≡ padded 64 (b .arities)

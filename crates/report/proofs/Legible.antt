@@ -11,7 +11,8 @@ use Rattle.model.specs.Rules.{RuleSet}
 use Rattle.model.specs.WellFormed.{WellFormed}
 use Rattle.model.specs.Stages as stages
 use Rattle.model.specs.Tables.{Checked, termRow, factRow, recorded, left, checked}
-use Rattle.laws_format.proofs.Lists.{getD-mem, length-collect}
+use Rattle.laws.proofs.Lists.{getD-mem}
+use Rattle.laws_format.proofs.Lists.{length-collect}
 use Rattle.laws_format.proofs.Bytes.{read-well-formed}
 use Rattle.laws_tables.proofs.Rows.{row-collect}
 use Rattle.laws_tables.proofs.Terms.{Recordable, plain, marked, recordable-mem, length-termRow, row-table}
@@ -23,8 +24,8 @@ use Rattle.laws_tables.proofs.Spelled.{Held, accepted-held, looping-held}
 use Rattle.dmfa.specs.declared.verdict.Verdict.{Verdict}
 use Rattle.dmfa.specs.declared.verdict.Verdict.the-variants.{Accepted, Cyclic, Refused}
 use Rattle.dmfa.specs.Verdict.{meant}
-use Rattle.report.specs.Legible.{LegibleTerms, LegibleFacts, Legible}
-use Rattle.report.proofs.Rows.{row-at, row-head, fewer-terms}
+use Rattle.text.specs.Legible.{LegibleTerms, LegibleFacts, Legible}
+use Rattle.text.proofs.Rows.{row-at, row-head, fewer-terms}
 use Rattle.report.proofs.Arities.{Declares}
 
 -- the arity in a term's row

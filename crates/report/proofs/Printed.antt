@@ -12,7 +12,8 @@ use Rattle.model.specs.Tables.{Checked, checked}
 use Rattle.model.specs.Text.{text, declared, textOf}
 use Rattle.laws_tables.proofs.Courses.{Course, short, faulty, judged, course}
 use Rattle.laws_tables.proofs.Printed.{length-textOf}
-use Rattle.report.specs.Writing.{Room}
+use Rattle.text.specs.Writing.{Room}
+use Rattle.report.specs.Printing.{textRoom}
 use Rattle.report.proofs.Arities.{Declares, same-text}
 
 -- the text of a refusal shows no arity
@@ -38,7 +39,7 @@ checked-text bytes terms₀ facts₀ as′ d = go (course bytes terms₀ facts�
     go (judged b i h r e) =
         same-text as′ (declared bytes) (λ p. d .same b i r p ∙ ap (λ (xs : List ℕ). getD xs p 0) (sym (declared-read bytes b i r))) (c .terms) (c .facts) (c .verdict)
 
-pub checked-room : (bytes terms₀ facts₀ as′ out : List ℕ) → Declares bytes as′ → 72767 ≤ length out
+pub checked-room : (bytes terms₀ facts₀ as′ out : List ℕ) → Declares bytes as′ → textRoom ≤ length out
     → Room (text as′ (checked bytes terms₀ facts₀ .verdict) (checked bytes terms₀ facts₀ .terms) (checked bytes terms₀ facts₀ .facts)) 0 out
 checked-room bytes terms₀ facts₀ as′ out d l =
     let e = ap length (checked-text bytes terms₀ facts₀ as′ d) in

@@ -18,8 +18,8 @@ use Rattle.dmfa.specs.Verdict.{meant}
 use Rattle.laws.proofs.Bools.{case, and-true}
 use Rattle.laws_tables.proofs.Printed.{length-textOf}
 use Rattle.tables.specs.Rows.{written}
-use Rattle.report.specs.Writing.{Room, Writes}
-use Rattle.report.specs.Legible.{Legible}
+use Rattle.text.specs.Writing.{Room, Writes}
+use Rattle.text.specs.Legible.{Legible}
 use Rattle.report.specs.Printing.{Printing, printing, textRoom}
 use Rattle.report.proofs.Arities.{Declares}
 use Rattle.report.proofs.Legible.{checked-legible}

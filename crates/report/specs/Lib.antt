@@ -1,4 +1,1 @@
-pub mod Writing
-pub mod Legible
-pub mod Lines
 pub mod Printing

@@ -1,24 +1,23 @@
 -- Terms and facts as rows: a number finds its term again, and rows are equal where terms or facts are. Assumes nothing.
 use mathlib.Core.Path.{_≡_, refl, sym, ap, ap₂, _∙_, subst}
-use mathlib.Core.Bool.{Bool, true, false}
-use mathlib.Core.Logic.{_⊎_, inl, inr}
+use mathlib.Core.Bool.{true, false}
 use mathlib.Core.List.{List, [], _∷_, _++_, map, List·Memᴰ, List·Memᴰ·head, List·Memᴰ·tail}
-use Prim.Native.Nat.{ℕ, suc, _+_, _-_, _≤_, _<_}
+use Prim.Native.Nat.{ℕ, suc, _-_, _≤_, _<_}
 use native.Mathlib.Omega.{arith}
 use lib.Dec.{eqb}
 use lib.ListN.{length, getD, take, replicate, length-map}
 use lib.Seq.{take-append-seam}
 use borrow.Author.Tests.{eqb-true, eq-eqb}
-use Rattle.model.specs.Lists.{any, index, padded}
+use Rattle.model.specs.Lists.{padded}
 use Rattle.model.specs.Term.{Position, Term, Terms, star, constant, apart, fresh, skolem, list, same}
 use Rattle.model.specs.Triggers.{Fact, sameFact}
 use Rattle.model.specs.Tables.{number, termRow, factRow}
-use Rattle.laws.proofs.Bools.{case, not-both, and-true, true-and}
-pub use Rattle.laws.proofs.Bools.{both-ways}
+use Rattle.laws.proofs.Bools.{not-both, and-true, true-and, both-ways}
 use Rattle.laws.proofs.Lists.{Decides, index-mem, getD-map}
 use Rattle.laws.proofs.Terms.{same-decides, terms-list, number-append}
 use Rattle.laws.proofs.Facts.{fact-path, sameFact-decides}
-use Rattle.rows.specs.Tables.{sameRow, Rows}
+use Rattle.laws.proofs.Distinct.{Within}
+use Rattle.rows.specs.Tables.{sameRow}
 
 pub sameRow-decides : Decides sameRow
 unfolding sameRow
@@ -36,23 +35,6 @@ sameRow-decides = record { sound = sound; complete = complete }
     complete [] = refl
     complete (x ∷ xs) = true-and (eqb x x) (sameRow xs xs) (eq-eqb x x refl) (complete xs)
 
-module _ {ℓ ℓ′} {A : Type ℓ} {B : Type ℓ′} (eqA : A → A → Bool) (eqB : B → B → Bool) (g : A → B) (x : A) where
-  -- a search among images finds what a search among the elements does
-  pub any-image : (xs : List A) → ((y : A) → List·Memᴰ y xs → eqB (g x) (g y) ≡ eqA x y) → any (eqB (g x)) (map g xs) ≡ any (eqA x) xs
-  unfolding any
-  any-image [] h = refl
-  any-image (y ∷ ys) h = rw (h y (List·Memᴰ·head refl), any-image ys (λ z m. h z (List·Memᴰ·tail m)))
-
-  pub index-image : (xs : List A) → ((y : A) → List·Memᴰ y xs → eqB (g x) (g y) ≡ eqA x y) → index eqB (g x) (map g xs) ≡ index eqA x xs
-  unfolding index
-  index-image [] h = refl
-  index-image (y ∷ ys) h = go (index-image ys (λ z m. h z (List·Memᴰ·tail m))) (h y (List·Memᴰ·head refl)) (case (eqA x y))
-    where
-      go : index eqB (g x) (map g ys) ≡ index eqA x ys → eqB (g x) (g y) ≡ eqA x y → (eqA x y ≡ true) ⊎ (eqA x y ≡ false)
-          → index eqB (g x) (g y ∷ map g ys) ≡ index eqA x (y ∷ ys)
-      go below e (inl k) = rw (e, k, index)
-      go below e (inr k) = rw (e, k, index) (ap suc below)
-
 -- numbers
 
 pub number-mem : {t : Term} {ts : List Term} → List·Memᴰ t ts → (number ts t < length ts) × (getD ts (number ts t) star ≡ t)
@@ -61,10 +43,6 @@ number-mem {t} {ts} m = index-mem same same-decides t ts star m
 
 pub number-injective : {s t : Term} {ts : List Term} → List·Memᴰ s ts → List·Memᴰ t ts → number ts s ≡ number ts t → s ≡ t
 number-injective {s} {t} {ts} m n e = sym (number-mem m .1) ∙ ap (λ (i : ℕ). getD ts i star) e ∙ number-mem n .1
-
--- all of a list stand in another
-abbrev pub Within {ℓ} : {A : Type ℓ} → List A → List A → Type ℓ
-Within {A = A} xs ys = (x : A) → List·Memᴰ x xs → List·Memᴰ x ys
 
 pub numbers-injective : {ts : List Term} (us vs : List Term) → Within us ts → Within vs ts → map (number ts) us ≡ map (number ts) vs → us ≡ vs
 numbers-injective [] [] m n e = refl
@@ -187,7 +165,3 @@ unfolding factRow
 factRow-append ts us f h =
     ap (λ (ns : List ℕ). padded 5 (f .predicate ∷ ns))
     (Rattle.laws.proofs.Triggers.map-agree (number (ts ++ us)) (number ts) (f .arguments) (λ t m. number-append t ts us (h t m)))
-
--- the rows of terms and facts
-unfoldable pub encode : List Term → List Fact → Rows
-encode ts fs = record { terms = map (termRow ts) ts; facts = map (factRow ts) fs }

@@ -3,3 +3,4 @@ pub mod Triggers
 pub mod Outputs
 pub mod Tables
 pub mod Growth
+pub mod Entering

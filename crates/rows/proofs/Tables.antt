@@ -8,11 +8,12 @@ use Prim.Native.Nat.{ℕ}
 use lib.Dec.{eqb}
 use lib.ListN.{getD}
 use Rattle.model.specs.Lists.{any, keep, extend}
+use Rattle.laws.specs.Lists.{Distinct}
 use Rattle.laws.proofs.Bools.{case}
-use Rattle.laws.proofs.Lists.{Distinct, distinct-snoc, keep-yes, keep-no, keep-mem, any-eq-not-mem, keep-append}
+use Rattle.laws.proofs.Lists.{distinct-snoc, keep-yes, keep-no, keep-mem, any-eq-not-mem, keep-append}
+use Rattle.laws.proofs.Extending.{extend-one-old, extend-one-new}
 use Rattle.rows.specs.Tables.{sameRow, enter}
 use Rattle.rows.proofs.Encoding.{sameRow-decides}
-use Rattle.rows.proofs.Outputs.{extend-one-old, extend-one-new}
 
 -- the row has a Skolem function
 unfoldable pub headed : List ℕ → Bool

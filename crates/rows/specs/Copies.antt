@@ -1,7 +1,7 @@
 -- The terms of a trigger renamed apart, over rows: each is copied into a table of its own, with a new row without a Skolem function for each
 -- occurrence of a constant (004, Definition 45). Assumes nothing.
 use mathlib.Core.List.{List, [], _∷_, _++_}
-use mathlib.Core.Bool.{Bool, true, false}
+use mathlib.Core.Bool.{true, false}
 use Prim.Native.Nat.{ℕ, zero, suc, _-_}
 use lib.Dec.{eqb}
 use lib.ListN.{length, getD, take, drop, replicate}

@@ -7,3 +7,5 @@ pub mod Origins
 pub mod Test
 pub mod Making
 pub mod Judging
+pub mod Done
+pub mod Fits

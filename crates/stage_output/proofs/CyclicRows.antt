@@ -11,17 +11,18 @@ use lib.Seq.{getD-set-other}
 use borrow.Author.Tests.{eq-eqb, ne-eqb}
 use Rattle.model.specs.Lists.{any, collect, numbersFrom}
 use Rattle.laws.proofs.Bools.{case}
-use Rattle.laws.proofs.Lists.{collect-append}
+use Rattle.laws.proofs.Lists.{collect-append, any-agree}
 use Rattle.tables.specs.Rows.{rows}
 use Rattle.tables.specs.Terms.{argumentOf, argumentsOf, Ordered, occursAt, marked, occursMarked}
 use Rattle.tables.proofs.Terms.{argumentsOf-mem, occurs-more, occurs-none}
 use Rattle.tables.proofs.Tables.{rows-length}
-use Rattle.outputs.proofs.Atoms.{numbersFrom-snoc}
+use Rattle.facts.proofs.Atoms.{numbersFrom-snoc}
 use Rattle.rows.specs.Copies.{argumentsIn}
-use Rattle.blocking.proofs.Copies.{numbersFrom-take}
+use Rattle.tables.proofs.Cells.{numbersFrom-take}
 use Rattle.rows.specs.Making.{occursIn, cyclicRow, firstCyclic}
-use Rattle.stage_output.specs.Cyclic.{loopOf, Arguments, rowWith, rowsWith, Settled}
-use Rattle.stage_output.proofs.Flat.{any-agree, occursIn-is}
+use Rattle.stage_output.specs.Cyclic.{Arguments, rowWith, rowsWith, cyclicOf, Unchanging}
+use Rattle.stage_output.proofs.Flat.{occursIn-is}
+use Rattle.stage_output.specs.declared.cyclic.Cyclic.{Cyclic}
 
 -- the first terms of a table by themselves
 pub ordered-front : {n : ℕ} {t : List ℕ} (k : ℕ) → k ≤ n → Ordered n t → Ordered k t
@@ -84,27 +85,28 @@ module _ (ts : List (List ℕ)) where
       go below (inr e) = rw (e, firstCyclic) below
 
   -- one was found before
-  pub first-old : (found : Bool) (row : List ℕ) (rs : List (List ℕ)) → found ≡ true → loopOf found row ≡ firstCyclic ts (loopOf found row) rs
-  unfolding firstCyclic loopOf
-  first-old found row rs e = rw (e, loopOf)
+  pub first-old : (c : Cyclic) (rs : List (List ℕ)) → c .found ≡ true → cyclicOf c ≡ firstCyclic ts (cyclicOf c) rs
+  unfolding firstCyclic cyclicOf
+  first-old c rs e = rw (e, cyclicOf)
 
-  module _ (found : Bool) (row : List ℕ) (f : ℕ) (template : List ℕ) where
+  module _ (c : Cyclic) (f : ℕ) (template : List ℕ) where
     -- a variable of the body
-    pub first-without : f ≡ 0 → loopOf found row ≡ firstCyclic ts (loopOf found row) (rowWith f template)
+    pub first-without : f ≡ 0 → cyclicOf c ≡ firstCyclic ts (cyclicOf c) (rowWith f template)
     unfolding rowWith
-    first-without e = sym (rw (eq-eqb f 0 e, rowWith) (first-none (loopOf found row)))
+    first-without e = sym (rw (eq-eqb f 0 e, rowWith) (first-none (cyclicOf c)))
 
     -- a variable with a Skolem function, by its test
-    pub first-test : found ≡ false → (f ≡ 0 → ⊥) → (cyclic : Bool) → cyclic ≡ cyclicRow ts (set template 0 f)
-        → loopOf cyclic (set template 0 f) ≡ firstCyclic ts (loopOf found row) (rowWith f template)
-    unfolding rowWith loopOf firstCyclic
-    first-test e h true c = rw (e, ne-eqb f 0 h, loopOf, rowWith) (rw (sym c, firstCyclic))
-    first-test e h false c = rw (e, ne-eqb f 0 h, loopOf, rowWith) (rw (sym c, firstCyclic))
+    pub first-test : c .found ≡ false → (f ≡ 0 → ⊥) → (found : Bool) → found ≡ cyclicRow ts (set template 0 f)
+        → cyclicOf (record { found = found; row = set template 0 f }) ≡ firstCyclic ts (cyclicOf c) (rowWith f template)
+    unfolding rowWith cyclicOf firstCyclic
+    first-test e h true p = rw (e, ne-eqb f 0 h, cyclicOf, rowWith) (rw (sym p, firstCyclic))
+    first-test e h false p = rw (e, ne-eqb f 0 h, cyclicOf, rowWith) (rw (sym p, firstCyclic))
 
   -- a function that was tested makes no difference again
-  pub settled : (f : ℕ) (template : List ℕ) → (f ≡ 0 → ⊥) → (cyclic : Bool) → cyclic ≡ cyclicRow ts (set template 0 f) → Settled ts template cyclic (set template 0 f) f
-  settled f template h true c = first-old true (set template 0 f) (rowWith f template) refl
-  settled f template h false c = first-test false (set template 0 f) f template refl h false c
+  pub unchanging-again : (f : ℕ) (template : List ℕ) → (f ≡ 0 → ⊥) → (found : Bool) → found ≡ cyclicRow ts (set template 0 f)
+      → Unchanging ts template (record { found = found; row = set template 0 f }) f
+  unchanging-again f template h true p = first-old (record { found = true; row = set template 0 f }) (rowWith f template) refl
+  unchanging-again f template h false p = first-test (record { found = false; row = set template 0 f }) f template refl h false p
 
 -- the Skolem rows of an atom's variables, one more
 pub rowsWith-none : (functions template atom : List ℕ) → rowsWith functions template (numbersFrom atom 1 0) ≡ []

@@ -8,22 +8,18 @@ use native.Mathlib.Omega.{arith}
 use lib.Dec.{eqb}
 use lib.ListN.{getD}
 use Rattle.model.specs.Lists.{any}
+use Rattle.laws.proofs.Lists.{any-agree}
+use Rattle.rows.specs.Making.{occursIn}
+use Rattle.rows.specs.Judging.{total, sizeIn}
 use Rattle.tables.specs.Rows.{rows}
 use Rattle.tables.specs.Terms.{Ordered, functionOf, argumentsOf, total as totalOf, sizeAt, occursAt}
 use Rattle.tables.proofs.Terms.{argumentsOf-before, sizeAt-is, occursAt-is}
-use Rattle.blocking.proofs.Copies.{getD-cell, argumentsIn-row}
-use Rattle.rows.specs.Making.{occursIn}
-use Rattle.rows.specs.Judging.{total, sizeIn}
+use Rattle.tables.proofs.Cells.{getD-cell, argumentsIn-row}
 
 pub total-agree : (f g : ℕ → ℕ) (xs : List ℕ) → ((x : ℕ) → List·Memᴰ x xs → f x ≡ g x) → total f xs ≡ totalOf g xs
 unfolding total totalOf
 total-agree f g [] h = refl
 total-agree f g (x ∷ xs) h = ap₂ (λ (a b : ℕ). a + b) (h x (List·Memᴰ·head refl)) (total-agree f g xs (λ y m. h y (List·Memᴰ·tail m)))
-
-pub any-agree {ℓ} : {A : Type ℓ} (f g : A → Bool) (xs : List A) → ((x : A) → List·Memᴰ x xs → f x ≡ g x) → any f xs ≡ any g xs
-unfolding any
-any-agree f g [] h = refl
-any-agree f g (x ∷ xs) h = ap₂ (λ (a b : Bool). a || b) (h x (List·Memᴰ·head refl)) (any-agree f g xs (λ y m. h y (List·Memᴰ·tail m)))
 
 module _ {n : ℕ} {t : List ℕ} (o : Ordered n t) where
   pub sizeIn-is : (k i : ℕ) → i < n → i < k → sizeIn k (rows 10 n t) i ≡ sizeAt t i

@@ -1,4 +1,3 @@
-pub mod Bodies
 pub mod CyclicRows
 pub mod Disjuncts
 pub mod Entering

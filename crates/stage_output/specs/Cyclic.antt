@@ -2,15 +2,20 @@
 -- the body, and the row of the Skolem terms but for their function. Assumes nothing.
 use mathlib.Core.Path.{_≡_}
 use mathlib.Core.List.{List, [], _∷_}
-use mathlib.Core.Bool.{Bool, true, false}
+use mathlib.Core.Bool.{true, false}
 use Prim.Native.Nat.{ℕ, _+_, _≤_, _<_}
 use lib.Dec.{eqb}
 use lib.ListN.{getD, set}
+use Rattle.model.specs.Limits.{termWidth, termLimit}
 use Rattle.model.specs.Lists.{collect}
+use Rattle.tables.specs.Rows.{rows}
+use Rattle.tables.specs.Terms.{Ordered}
 use Rattle.rows.specs.Making.{firstCyclic}
+use Rattle.stage_output.specs.declared.cyclic.Cyclic.{Cyclic}
+use Rattle.stage_output.specs.declared.cyclic.Tested.{Tested}
 
-unfoldable pub loopOf : Bool → List ℕ → List (List ℕ)
-loopOf found row = elim found [ true ↦ row ∷ [] | false ↦ [] ]
+unfoldable pub cyclicOf : Cyclic → List (List ℕ)
+cyclicOf c = elim (c .found) [ true ↦ c .row ∷ [] | false ↦ [] ]
 
 -- the arguments of a Skolem row, whatever its function, are among the first n terms
 pub record Arguments (n : ℕ) (row : List ℕ) : Type 0 where
@@ -25,5 +30,17 @@ unfoldable pub rowsWith : List ℕ → List ℕ → List ℕ → List (List ℕ)
 rowsWith functions template vs = collect (λ (v : ℕ). rowWith (getD functions v 0) template) vs
 
 -- the row of a function makes no difference to the first cyclic row: one was found, or the function was tested, or it is 0
-abbrev pub Settled : List (List ℕ) → List ℕ → Bool → List ℕ → ℕ → Type 0
-Settled terms template found row tested = loopOf found row ≡ firstCyclic terms (loopOf found row) (rowWith tested template)
+abbrev pub Unchanging : List (List ℕ) → List ℕ → Cyclic → ℕ → Type 0
+Unchanging terms template c function = cyclicOf c ≡ firstCyclic terms (cyclicOf c) (rowWith function template)
+
+-- Skolem rows over the first n terms can be looked at, and the function tested last need not be
+pub record Testable (n : ℕ) (terms template : List ℕ) (before : Tested) : Type 0 where
+  pub ordered : Ordered n terms
+  pub few : n ≤ termLimit
+  pub arguments : Arguments n template
+  pub unchanging : Unchanging (rows termWidth n terms) template (before .cyclic) (before .function)
+
+-- the first cyclic row once some Skolem rows were looked at
+pub record Looked (n : ℕ) (terms template : List ℕ) (skolem : List (List ℕ)) (before after : Tested) : Type 0 where
+  pub first : cyclicOf (after .cyclic) ≡ firstCyclic (rows termWidth n terms) (cyclicOf (before .cyclic)) skolem
+  pub unchanging : Unchanging (rows termWidth n terms) template (after .cyclic) (after .function)

@@ -2,12 +2,16 @@
 ghost use mathlib.Core.Path.{_≡_};
 ghost use Prim.Native.Nat.{ℕ, _≤_, _<_};
 ghost use lib.ListN.{getD};
+ghost use Rattle.model.specs.Limits.{termWidth, termLimit};
 ghost use Rattle.model.specs.Lists.{numbersFrom};
 ghost use Rattle.tables.specs.Rows.{rows};
 ghost use Rattle.tables.specs.Terms.{Ordered};
-ghost use Rattle.outputs.specs.Atoms.{Sound};
-ghost use Rattle.rows.specs.Making.{cyclicRow, firstCyclic};
-ghost use Rattle.stage_output.specs.Cyclic.{loopOf, Arguments, rowWith, rowsWith, Settled};
+ghost use Rattle.facts.specs.Atoms.{Sound};
+ghost use Rattle.rows.specs.Making.{cyclicRow};
+ghost use Rattle.stage_output.specs.Cyclic.{Arguments, rowWith, rowsWith, Testable, Looked};
+
+// A stage has at most 512 terms.
+const TERM_LIMIT: usize = 512;
 
 // One more than an argument, or what was reached before if that is more.
 fn farther(reached: usize, argument: u16) -> usize
@@ -37,44 +41,56 @@ fn reach(row: [u16; 10]) -> usize
 
 // Whether a Skolem row over the first `n` terms is cyclic.
 fn is_cyclic(terms: &[u16], n: usize, row: [u16; 10]) -> bool
-    requires { ⌜ Ordered n (now terms) × (n ≤ 512) × Arguments n row ⌝ }
-    ensures { λ r. ⌜ r ≡ cyclicRow (rows 10 n (now (terms .entry))) row ⌝ }
+    requires { ⌜ Ordered n (now terms) × (n ≤ termLimit) × Arguments n row ⌝ }
+    ensures { λ r. ⌜ r ≡ cyclicRow (rows termWidth n (now (terms .entry))) row ⌝ }
 {
-    let mut marks: [bool; 512] = [false; 512];
+    let mut marks: [bool; TERM_LIMIT] = [false; TERM_LIMIT];
     tables::mark_arguments(&row[..], 0, &mut marks[..]);
     // no term behind the greatest argument stands in one
     let count = reach(row);
     tables::occurs_in_marked(terms, count, row[0], &mut marks[..])
 }
 
-// A cyclic row, if one was found, and the Skolem function that was tested last, 0 if none was.
-pub struct Loop {
+// A cyclic row, if one was found.
+pub struct Cyclic {
     pub found: bool,
     pub row: [u16; 10],
-    pub tested: u16,
+}
+
+// With the Skolem function that was tested last, 0 if none was.
+pub struct Tested {
+    pub cyclic: Cyclic,
+    pub function: u16,
 }
 
 // The first cyclic row: the one before, or that of a variable with a Skolem function. The function that was tested last is not tested again.
-fn with_variable(function: u16, template: [u16; 10], terms: &[u16], n: usize, before: Loop) -> Loop
-    requires { ⌜ Ordered n (now terms) × (n ≤ 512) × Arguments n template × Settled (rows 10 n (now terms)) template (before .found) (before .row) (before .tested) ⌝ }
-    ensures { λ r. ⌜ (loopOf (r .found) (r .row) ≡ firstCyclic (rows 10 n (now (terms .entry))) (loopOf (before .found) (before .row)) (rowWith function template)) × Settled (rows 10 n (now (terms .entry))) template (r .found) (r .row) (r .tested) ⌝ }
+fn with_variable(
+    function: u16,
+    template: [u16; 10],
+    terms: &[u16],
+    n: usize,
+    before: Tested,
+) -> Tested
+    requires { ⌜ Testable n (now terms) template before ⌝ }
+    ensures { λ r. ⌜ Looked n (now (terms .entry)) template (rowWith function template) before r ⌝ }
 {
-    if before.found {
+    let cyclic = before.cyclic;
+    if cyclic.found {
         return before;
     }
     if function == 0 {
         return before;
     }
-    if function == before.tested {
+    if function == before.function {
         return before;
     }
     let mut row = template;
     row[0] = function;
     let found = is_cyclic(terms, n, row);
-    Loop {
-        found,
-        row,
-        tested: function,
+    let first = Cyclic { found, row };
+    Tested {
+        cyclic: first,
+        function,
     }
 }
 
@@ -86,23 +102,17 @@ pub fn with_atom(
     template: [u16; 10],
     terms: &[u16],
     n: usize,
-    before: Loop,
-) -> Loop
-    requires { ⌜ Sound atom arity × Ordered n (now terms) × (n ≤ 512) × Arguments n template × Settled (rows 10 n (now terms)) template (before .found) (before .row) (before .tested) ⌝ }
-    ensures { λ r. ⌜ (loopOf (r .found) (r .row) ≡ firstCyclic (rows 10 n (now (terms .entry))) (loopOf (before .found) (before .row)) (rowsWith functions template (numbersFrom atom 1 arity))) × Settled (rows 10 n (now (terms .entry))) template (r .found) (r .row) (r .tested) ⌝ }
+    before: Tested,
+) -> Tested
+    requires { ⌜ Sound atom arity × Testable n (now terms) template before ⌝ }
+    ensures { λ r. ⌜ Looked n (now (terms .entry)) template (rowsWith functions template (numbersFrom atom 1 arity)) before r ⌝ }
 {
-    let mut found = before.found;
-    let mut row = before.row;
-    let mut tested = before.tested;
+    let mut so_far = before;
     let mut p = 0;
     while p < arity {
         let function = functions[atom[p + 1] as usize];
-        let so_far = Loop { found, row, tested };
-        let next = with_variable(function, template, terms, n, so_far);
-        found = next.found;
-        row = next.row;
-        tested = next.tested;
+        so_far = with_variable(function, template, terms, n, so_far);
         p += 1;
     }
-    Loop { found, row, tested }
+    so_far
 }

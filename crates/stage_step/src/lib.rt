@@ -1,10 +1,4 @@
-// One stage made of another: refusal 11, and the output of each trigger that is not blocked. The contracts cite the definitions over rows of
-// `rows`.
-pub mod alone;
+// One stage made of another: the triggers of each rule, in order. The contracts cite Stage of stage_making, and Making of rows.
 pub mod blockable;
-pub mod generating;
-pub mod idle;
-pub mod large;
-pub mod roomy;
 pub mod stage;
 pub mod unblockable;

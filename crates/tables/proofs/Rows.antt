@@ -10,9 +10,9 @@ use native.Mathlib.Omega.{arith}
 use lib.Dec.{eqb}
 use lib.ListN.{length, getD, take, drop, set}
 use lib.Seq.{drop-cons, getD-drop, take-length, paste, paste-suc}
-use borrow.Author.Tests.{eq-eqb, ne-eqb, lt-ltb, le-ltb}
-use Rattle.tables.specs.Rows.{begins, seekRow, findRow, written, entered}
+use borrow.Author.Tests.{eq-eqb, ne-eqb}
 use Rattle.laws.proofs.Bools.{case}
+use Rattle.tables.specs.Rows.{begins, seekRow, findRow, written}
 
 -- both lists, each from its own place, taken apart at their heads
 begins-apart : (r t : List ℕ) (i j : ℕ) → i < length r → j < length t
@@ -119,14 +119,3 @@ seekRow-le r t i (suc n) = go (seekRow-le r t (suc i) n) (case (begins r (drop (
 pub findRow-le : (r t : List ℕ) (n : ℕ) → findRow r n t ≤ n
 unfolding findRow
 findRow-le r t n = let h = seekRow-le r t 0 n in omega arith
-
-pub entered-old : (r t : List ℕ) (n : ℕ) → (findRow r n t ≡ n → ⊥) → entered r n t ≡ t
-unfolding entered
-entered-old r t n h =
-    let k = findRow-le r t n in
-    let l : findRow r n t < n = omega arith in
-    rw (lt-ltb (findRow r n t) n l, entered)
-
-pub entered-new : (r t : List ℕ) (n : ℕ) → findRow r n t ≡ n → entered r n t ≡ written r (n * length r) t
-unfolding entered
-entered-new r t n h = rw (le-ltb (findRow r n t) n (omega arith), entered)

@@ -1,21 +1,18 @@
 -- A table's rows as a list: what is found is the index in that list, and what is entered extends it. Over the width. Assumes nothing.
-use mathlib.Core.Path.{_≡_, refl, sym, ap, _∙_, subst}
+use mathlib.Core.Path.{_≡_, refl, sym, ap, _∙_}
 use mathlib.Core.Bool.{Bool, true, false, _&&_}
 use mathlib.Core.List.{List, [], _∷_, _++_}
 use mathlib.Core.Logic.{_⊎_, inl, inr}
 use Prim.Native.Nat.{ℕ, zero, suc, _+_, _*_, _≤_, _<_}
 use native.Mathlib.Nat.{mul-le-mul-right, suc-mul, zero-mul, add-zero, add-suc, suc-add, zero-add, add-comm}
-use native.Mathlib.Numerals.{add-one}
 use native.Mathlib.Omega.{arith}
 use lib.Dec.{eqb}
 use lib.ListN.{length, getD, take, drop, length-append, length-drop}
 use lib.Seq.{take-at, drop-drop, length-take-le, getD-take, getD-drop}
-use Rattle.model.specs.Lists.{any, index, extend, row}
-use Rattle.laws.proofs.Bools.{case, not-both, or-false}
-use Rattle.laws.proofs.Lists.{extend-old, extend-new}
-use Rattle.rows.specs.Tables.{sameRow, enter, numberOf}
-use Rattle.tables.specs.Rows.{begins, seekRow, findRow, rows, written, entered}
-use Rattle.tables.proofs.Rows.{entered-old, entered-new}
+use Rattle.model.specs.Lists.{index, row}
+use Rattle.laws.proofs.Bools.{case}
+use Rattle.rows.specs.Tables.{sameRow, numberOf}
+use Rattle.tables.specs.Rows.{begins, seekRow, findRow, rows, written}
 
 -- a list begins with a row if so many of its first numbers are the row
 begins-sameRow : (r ys : List ℕ) → length r ≤ length ys → begins r ys ≡ sameRow r (take (length r) ys)
@@ -120,43 +117,6 @@ rows-written (suc n) r t h =
     ap (λ (k : ℕ). rows w (suc (suc n)) (written r k t)) e
     ∙ (λ i. written-take w (n * w) r t fits i ∷ rows w (suc n) (written-drop w (n * w) r t fits i))
     ∙ ap (λ (xs : List (List ℕ)). take w t ∷ xs) (rows-written n r (drop w t) room)
-
--- a row is entered: the rows are extended by it
-
-index-found : (r : List ℕ) (xs : List (List ℕ)) → any (sameRow r) xs ≡ true → index sameRow r xs < length xs
-unfolding any index
-index-found r [] h = not-both false h refl
-index-found r (x ∷ xs) h = go (case (sameRow r x)) (λ k. index-found r xs k)
-  where
-    go : (sameRow r x ≡ true) ⊎ (sameRow r x ≡ false) → (any (sameRow r) xs ≡ true → index sameRow r xs < length xs) → index sameRow r (x ∷ xs) < suc (length xs)
-    go (inl e) below = rw (e, index) (omega arith)
-    go (inr e) below = let k = below (sym (rw (e, any)) ∙ h) in rw (e, index) (omega arith)
-
-index-missing : (r : List ℕ) (xs : List (List ℕ)) → any (sameRow r) xs ≡ false → index sameRow r xs ≡ length xs
-unfolding any index
-index-missing r [] h = refl
-index-missing r (x ∷ xs) h = let (a, b) = or-false (sameRow r x) (any (sameRow r) xs) h in rw (a, index) (ap suc (index-missing r xs b))
-
-pub rows-entered : (r t : List ℕ) (n : ℕ) → suc n * length r ≤ length t
-    → rows (length r) (length (enter r (rows (length r) n t))) (entered r n t) ≡ enter r (rows (length r) n t)
-unfolding enter extend
-rows-entered r t n h = go (case (any (sameRow r) (rows w n t)))
-  where
-    w : ℕ
-    w = length r
-
-    fits : n * w ≤ length t
-    fits = let e : suc n * w ≡ n * w + w = suc-mul n w in omega arith
-
-    go : (any (sameRow r) (rows w n t) ≡ true) ⊎ (any (sameRow r) (rows w n t) ≡ false)
-        → rows w (length (extend sameRow (rows w n t) (r ∷ []))) (entered r n t) ≡ extend sameRow (rows w n t) (r ∷ [])
-    go (inl e) =
-        let found : findRow r n t < n = rw (findRow-index r t n fits) (subst (λ (k : ℕ). index sameRow r (rows w n t) < k) (rows-length w n t) (index-found r (rows w n t) e)) in
-        rw (extend-old sameRow (rows w n t) r [] e) (rw (entered-old r t n (λ p. omega arith)) (ap (λ (k : ℕ). rows w k t) (rows-length w n t)))
-    go (inr e) =
-        let missing : findRow r n t ≡ n = findRow-index r t n fits ∙ index-missing r (rows w n t) e ∙ rows-length w n t in
-        let more : length (rows w n t ++ (r ∷ [])) ≡ suc n = length-append (rows w n t) (r ∷ []) ∙ ap (λ (k : ℕ). k + 1) (rows-length w n t) ∙ add-one n in
-        rw (extend-new sameRow (rows w n t) r [] e) (rw (entered-new r t n missing, more) (rows-written n r t h))
 
 -- a row in use, and its numbers
 

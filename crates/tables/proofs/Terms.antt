@@ -2,8 +2,7 @@
 -- nothing.
 use mathlib.Core.Path.{_≡_, refl, sym, ap, ap₂, _∙_}
 use mathlib.Core.Bool.{Bool, true, false, _&&_, _||_, or-assoc, or-false}
-use mathlib.Core.List.{List, [], _∷_, List·Memᴰ, List·Memᴰ·head, List·Memᴰ·tail, List·Memᴰ·not-nil, List·Memᴰ·cases-cons}
-use mathlib.Core.Logic.{_⊎_, inl, inr}
+use mathlib.Core.List.{List, [], _∷_, List·Memᴰ, List·Memᴰ·head, List·Memᴰ·tail}
 use Prim.Native.Nat.{ℕ, zero, suc, _+_, _*_, _≤_, _<_}
 use native.Mathlib.Nat.{add-zero, add-suc, suc-add}
 use native.Mathlib.Numerals.{add-one}
@@ -14,8 +13,10 @@ use lib.Seq.{drop-nil, getD-set-same, getD-set-other}
 use native.Mathlib.Decide.{decLt}
 use borrow.Author.Tests.{eq-eqb, ne-eqb}
 use Rattle.model.specs.Lists.{any, numbersFrom}
-use Rattle.tables.specs.Terms.{functionOf, arityOf, argumentOf, argumentsOf, Ordered, total, sizeWithin, sizeAt, occursWithin, occursAt, marked, occursMarked, passedDown}
 use Rattle.laws.proofs.Bools.{or-left, or-right}
+use Rattle.laws.proofs.Places.{numbersFrom-mem}
+use Rattle.laws.proofs.Lists.{any-agree}
+use Rattle.tables.specs.Terms.{functionOf, arityOf, argumentOf, argumentsOf, Ordered, total, sizeWithin, sizeAt, occursWithin, occursAt, marked, occursMarked, passedDown}
 
 -- n numbers from a place on, from the j-th of them on
 numbersFrom-drop : (xs : List ℕ) (at n j : ℕ) → j < n → drop j (numbersFrom xs at n) ≡ getD xs (at + j) 0 ∷ drop (suc j) (numbersFrom xs at n)
@@ -29,16 +30,6 @@ unfolding numbersFrom
 numbersFrom-end xs at zero j h = drop-nil j
 numbersFrom-end xs at (suc n) zero h = absurd (omega arith)
 numbersFrom-end xs at (suc n) (suc j) h = numbersFrom-end xs (suc at) n j (omega arith)
-
-numbersFrom-mem : (xs : List ℕ) (at n : ℕ) {a : ℕ} → List·Memᴰ a (numbersFrom xs at n) → (j : ℕ) × (j < n) × (a ≡ getD xs (at + j) 0)
-unfolding numbersFrom
-numbersFrom-mem xs at zero m = absurd (List·Memᴰ·not-nil m)
-numbersFrom-mem xs at (suc n) {a} m = go (λ k. numbersFrom-mem xs (suc at) n k) (List·Memᴰ·cases-cons m)
-  where
-    go : (List·Memᴰ a (numbersFrom xs (suc at) n) → (j : ℕ) × (j < n) × (a ≡ getD xs (suc at + j) 0)) → (a ≡ getD xs at 0) ⊎ List·Memᴰ a (numbersFrom xs (suc at) n)
-        → (j : ℕ) × (j < suc n) × (a ≡ getD xs (at + j) 0)
-    go below (inl e) = (0, omega arith, e ∙ ap (λ (k : ℕ). getD xs k 0) (sym (add-zero at)))
-    go below (inr k) = let (j, h, e) = below k in (suc j, omega arith, e ∙ ap (λ (k : ℕ). getD xs k 0) (suc-add at j ∙ sym (add-suc at j)))
 
 pub argumentsOf-more : (t : List ℕ) (i j : ℕ) → j < arityOf t i → drop j (argumentsOf t i) ≡ argumentOf t i j ∷ drop (j + 1) (argumentsOf t i)
 unfolding argumentsOf
@@ -63,11 +54,6 @@ total-agree : (f g : ℕ → ℕ) (xs : List ℕ) → ((x : ℕ) → List·Mem�
 unfolding total
 total-agree f g [] h = refl
 total-agree f g (x ∷ xs) h = let p = h x (List·Memᴰ·head refl) in let q = total-agree f g xs (λ y m. h y (List·Memᴰ·tail m)) in λ i. p i + q i
-
-any-agree : (f g : ℕ → Bool) (xs : List ℕ) → ((x : ℕ) → List·Memᴰ x xs → f x ≡ g x) → any f xs ≡ any g xs
-unfolding any
-any-agree f g [] h = refl
-any-agree f g (x ∷ xs) h = let p = h x (List·Memᴰ·head refl) in let q = any-agree f g xs (λ y m. h y (List·Memᴰ·tail m)) in λ i. p i || q i
 
 -- every bound above the term's number gives the same
 

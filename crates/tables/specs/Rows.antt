@@ -2,7 +2,7 @@
 use mathlib.Core.List.{List, [], _∷_, _++_}
 use mathlib.Core.Bool.{Bool, true, false, _&&_}
 use Prim.Native.Nat.{ℕ, zero, suc, _+_, _*_}
-use lib.Dec.{eqb, ltb}
+use lib.Dec.{eqb}
 use lib.ListN.{length, take, drop}
 
 -- the list begins with these numbers
@@ -28,7 +28,3 @@ rows w (suc n) table = take w table ∷ rows w n (drop w table)
 -- r written over what stands from a place on
 unfoldable pub written : List ℕ → ℕ → List ℕ → List ℕ
 written r at table = take at table ++ r ++ drop (at + length r) table
-
--- a table whose first n rows are in use, with r among them: found, or written behind them
-unfoldable pub entered : List ℕ → ℕ → List ℕ → List ℕ
-entered r n table = elim (ltb (findRow r n table) n) [ true ↦ table | false ↦ written r (n * length r) table ]

@@ -13,6 +13,10 @@ functionOf table i = getD table (i * 10) 0
 abbrev pub arityOf : List ℕ → ℕ → ℕ
 arityOf table i = getD table (i * 10 + 1) 0
 
+-- how many arguments of a term are copied: none of a constant
+unfoldable pub copiedArity : List ℕ → ℕ → ℕ
+copiedArity table i = elim (eqb (functionOf table i) 0) [ true ↦ 0 | false ↦ arityOf table i ]
+
 abbrev pub argumentOf : List ℕ → ℕ → ℕ → ℕ
 argumentOf table i j = getD table (i * 10 + 2 + j) 0
 

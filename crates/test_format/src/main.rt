@@ -1,10 +1,10 @@
-// Tries `ruleset`'s `read` and `write` on books: a line for each difference from what document 01 asks, one for each group of cases, then
+// Tries `read` and `write` on books: a line for each difference from what document 01 asks, one for each group of cases, then
 // the count.
 //
 // A group is a file with a case on each line, as `reading` and `writing` say. What `misstated` says is wrong, and so is the first form, and
 // each of them must differ.
 mod answer;
-mod form;
+mod forms;
 mod reading;
 mod writing;
 
@@ -48,8 +48,8 @@ fn try_group(name: &[u8]) -> Tally {
 
 // The forms of River and Lake, number by number.
 fn try_forms() -> Tally {
-    let river = form::differs(b"river.book", b"river.form");
-    let lake = form::differs(b"lake.book", b"lake.form");
+    let river = forms::differs(b"river.book", b"river.form");
+    let lake = forms::differs(b"lake.book", b"lake.form");
     let tally = Tally::new().with(river).with(lake);
     say::count(b"forms", tally.cases, tally.differences);
     tally
@@ -57,7 +57,7 @@ fn try_forms() -> Tally {
 
 fn main() {
     try_group(b"misstated");
-    form::differs(b"river.book", b"lake.form");
+    forms::differs(b"river.book", b"lake.form");
     let tally = try_group(b"refusals")
         .plus(try_group(b"damaged"))
         .plus(try_group(b"random"))

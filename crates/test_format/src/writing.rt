@@ -1,14 +1,17 @@
 // A case `w NN PPPP BBBB FFFF AAAA VVVV BOOK` of `write`: a refusal's number, or 0 where the form is written; the refusal's place, or how
 // many bytes are written; how many bytes the lent list has, and how many numbers the form; the form is a book's with the number VVVV at the
 // place AAAA. A form that is written is one whose bytes are the book's still.
+use crate::answer::INPUT_LIMIT;
+use crate::answer::LENT_LIMIT;
 use crate::answer::expected;
-use crate::form::put;
+use crate::forms::put;
 use reader::read;
 use test_support::answer::is_other;
 use test_support::answer::shown;
 use test_support::bytes;
 use test_support::column::four;
 use test_support::file;
+use test_support::numbers;
 use test_support::say;
 use writer::write;
 
@@ -35,12 +38,12 @@ pub fn differs(line: &[u8]) -> bool {
     if fd < 0 {
         return true;
     }
-    let mut book = [0u8; 6856];
+    let mut book = [0u8; INPUT_LIMIT];
     let n = file::load(fd, &mut book[..]);
-    let mut form = [65535u16; 9999];
+    let mut form = [numbers::MARK; LENT_LIMIT];
     read(&book[..n], &mut form[..]);
     put(&line[20..], &mut form[..]);
-    let mut list = [238u8; 9999];
+    let mut list = [bytes::MARK; LENT_LIMIT];
     let room = four(line, 10);
     let places = four(line, 15);
     compared(line, &form[0..places], &book[..n], &mut list[0..room])

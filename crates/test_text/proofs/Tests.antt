@@ -9,7 +9,7 @@ use borrow.Author.Tests.{leb-true, ltb-true}
 use Rattle.laws.proofs.Bools.{and-true}
 use Rattle.triggers.specs.Match.{allBelow}
 use Rattle.triggers.proofs.Below.{all-below}
-use Rattle.report.specs.Legible.{LegibleTerms, LegibleFacts}
+use Rattle.text.specs.Legible.{LegibleTerms, LegibleFacts}
 
 arityFits : List ℕ → ℕ → Bool
 arityFits terms i = leb (getD terms (i * 10 + 1) 0) 8

@@ -5,13 +5,24 @@ ghost use Prim.Native.Nat.{_≤_};
 ghost use lib.ListN.{length};
 ghost use Rattle.model.specs.Text.{text};
 ghost use Rattle.dmfa.specs.Verdict.{meant};
-ghost use Rattle.report.specs.Legible.{Legible};
+ghost use Rattle.text.specs.Legible.{Legible};
+
+// Numbers of four and five digits, for a table and for an answer.
+const FOUR_DIGITS: u16 = 9999;
+
+const SKOLEM_LIMIT: u16 = 2048;
+
+const LARGEST: u16 = 65535;
+
+const STAGE: usize = 1000;
+
+const INPUT_LIMIT: usize = 6856;
 
 fn show(verdict: Verdict, arities: &[u16], terms: &[u16], facts: &[u16])
     requires { ⌜ Legible (now arities) verdict (now terms) (now facts) × (length (text (now arities) (meant verdict) (now terms) (now facts)) ≤ 256) ⌝ }
 {
     let mut out = [0u8; 256];
-    let n = report::write_text(verdict, arities, terms, facts, &mut out);
+    let n = text::write_text(verdict, arities, terms, facts, &mut out);
     io::write_all(STDOUT_FILENO, &out[..n]);
 }
 
@@ -63,7 +74,7 @@ fn widest() {
         0,
         0,
         0,
-        2048,
+        SKOLEM_LIMIT,
         8,
         0,
         9,
@@ -71,23 +82,18 @@ fn widest() {
         99,
         100,
         511,
-        9999,
-        65535,
+        FOUR_DIGITS,
+        LARGEST,
     ];
-    let facts = [0, 0, 9, 10, 65535, 1, 511, 0, 0, 0];
-    show(Verdict::Cyclic(1000, 2, 1), &arities, &terms, &facts);
+    let facts = [0, 0, 9, 10, LARGEST, 1, 511, 0, 0, 0];
+    show(Verdict::Cyclic(STAGE, 2, 1), &arities, &terms, &facts);
 }
 
 fn refusals() {
     let none = [0];
     show(Verdict::Refused(1, 0), &none, &none, &none);
-    show(Verdict::Refused(10, 6856), &none, &none, &none);
-    show(
-        Verdict::Refused(14, 18446744073709551615),
-        &none,
-        &none,
-        &none,
-    );
+    show(Verdict::Refused(10, INPUT_LIMIT), &none, &none, &none);
+    show(Verdict::Refused(14, usize::MAX), &none, &none, &none);
 }
 
 fn main() {

@@ -3,6 +3,9 @@ use libc::STDOUT_FILENO;
 ghost use Prim.Native.Nat.{_≤_};
 ghost use Rattle.triggers.specs.Match.{Searchable};
 
+// Room for the index of a few facts.
+const INDEX_ROOM: usize = 2600;
+
 fn print_assignment(assignment: [u16; 8]) {
     let mut line = [b' '; 16];
     let mut i = 0;
@@ -24,7 +27,7 @@ fn print_triggers(
 )
     requires { ⌜ Searchable (record { atoms = body; arities = arities; count = atoms }) (now facts) count terms × (count ≤ 8) ⌝ }
 {
-    let mut index = [0u16; 2600];
+    let mut index = [0u16; INDEX_ROOM];
     triggers::index::extend(facts, 0, count, &mut index);
     let mut start = [0u16; 8];
     loop {

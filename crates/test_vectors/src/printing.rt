@@ -2,6 +2,9 @@
 // file of the text. L is `=` for lists of the lengths that `print` asks for, `+` for longer ones, `t`, `f` or `o` where the terms, the facts or
 // the text's bytes are one short: then the answer is refusal 1 at place 0, and nothing is touched.
 use crate::tables;
+use report::FACTS_FRONT;
+use report::TERMS_FRONT;
+use report::TEXT_ROOM;
 use report::print;
 use test_support::answer::Answer;
 use test_support::answer::is_other;
@@ -9,9 +12,16 @@ use test_support::answer::shown;
 use test_support::bytes;
 use test_support::column::find;
 use test_support::file;
+use test_support::numbers;
 use test_support::say;
 ghost use Prim.Native.Nat.{_+_, _<_, _≤_};
 ghost use lib.ListN.{length};
+
+// How much longer a list may be than `print` asks.
+const MORE: usize = 57;
+
+// One byte more than the longest book has.
+const INPUT_LIMIT: usize = 6856;
 
 // The length of a list of which `letter` says that it is one short.
 fn room(lists: u8, letter: u8, asked: usize) -> usize
@@ -22,7 +32,7 @@ fn room(lists: u8, letter: u8, asked: usize) -> usize
         return asked - 1;
     }
     if lists == b'+' {
-        return asked + 57;
+        return asked + MORE;
     }
     asked
 }
@@ -72,12 +82,12 @@ fn tried(line: &[u8], book: &[u8], text: &[u8]) -> bool
     requires { ⌜ 2 ≤ length (now line) ⌝ }
 {
     let lists = line[0];
-    let mut terms = [65535u16; 5187];
-    let mut facts = [65535u16; 10297];
-    let mut out = [238u8; 72824];
-    let t = room(lists, b't', 5130);
-    let f = room(lists, b'f', 10240);
-    let o = room(lists, b'o', 72767);
+    let mut terms = [numbers::MARK; TERMS_FRONT + MORE];
+    let mut facts = [numbers::MARK; FACTS_FRONT + MORE];
+    let mut out = [bytes::MARK; TEXT_ROOM + MORE];
+    let t = room(lists, b't', TERMS_FRONT);
+    let f = room(lists, b'f', FACTS_FRONT);
+    let o = room(lists, b'o', TEXT_ROOM);
     compared(
         line,
         book,
@@ -88,7 +98,7 @@ fn tried(line: &[u8], book: &[u8], text: &[u8]) -> bool
     )
 }
 
-// Whether a case differs, by at most the first 6,856 bytes of its book.
+// Whether a case differs, by the front of its book.
 pub fn differs(line: &[u8]) -> bool {
     if line.len() < 12 {
         say::note(line, b"no case");
@@ -103,13 +113,13 @@ pub fn differs(line: &[u8]) -> bool {
     if fd < 0 {
         return true;
     }
-    let mut book = [0u8; 6856];
+    let mut book = [0u8; INPUT_LIMIT];
     let n = file::load(fd, &mut book[..]);
     let fd = file::open(&line[space + 1..]);
     if fd < 0 {
         return true;
     }
-    let mut text = [0u8; 72768];
+    let mut text = [0u8; TEXT_ROOM + 1];
     let m = file::load(fd, &mut text[..]);
     tried(line, &book[..n], &text[..m])
 }

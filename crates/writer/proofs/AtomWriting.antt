@@ -8,11 +8,11 @@ use Rattle.model.specs.Lists.{numbersFrom, collect}
 use Rattle.model.specs.Format.{Parsed, good, andThen, many, byte, variable, atom, atoms, atomBytes, atomsBytes}
 use Rattle.model.specs.Form.{spaced, atomAt, groupAt}
 use Rattle.laws.proofs.Places.{getD-numbersFrom, length-numbersFrom, length-spaced}
-use Rattle.form.specs.Sets.{setOf}
-use Rattle.reader.specs.Step.{value, atomSet, atomsSet}
+use Rattle.form_variables.specs.Sets.{setOf}
+use Rattle.parsing.specs.Step.{value, atomSet, atomsSet}
 use Rattle.writer.specs.Writes.{Writes, Took, Ends}
-use Rattle.reader.specs.declared.Step.{Step}
-use Rattle.reader.specs.declared.Step.the-variants.{Good, Bad}
+use Rattle.parsing.specs.declared.Step.{Step}
+use Rattle.parsing.specs.declared.Step.the-variants.{Good, Bad}
 use Rattle.writer.proofs.Writing.{writes-refused, writes-then, writes-map, writes-as}
 
 module _ (form : List ℕ) (n at i v : ℕ) (before mid : List ℕ) (r : Step) where

@@ -17,7 +17,7 @@ use Rattle.laws.proofs.Bools.{case}
 use Rattle.laws_format.proofs.Bytes.{bytesOf-length}
 use Rattle.laws_format.proofs.RoundTrip.{decoded-fault, writing-good}
 use Rattle.laws_format.proofs.Format.{andThen-assoc}
-use Rattle.reader.specs.Step.{parsedRules}
+use Rattle.parsing.specs.Step.{parsedRules}
 use Rattle.writer.specs.Writes.{Agree, parsedContent, lengthened}
 
 -- the parse of all that follows the length, and the test that the bytes end there

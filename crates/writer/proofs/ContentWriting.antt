@@ -8,10 +8,10 @@ use Rattle.model.specs.Rules.{Rule, RuleSet}
 use Rattle.model.specs.Format.{Parsed, good, andThen, many, byte, rule, ruleBytes, content}
 use Rattle.model.specs.Form.{spaced, ruleAt, decoded}
 use Rattle.laws.proofs.Places.{length-numbersFrom}
-use Rattle.reader.specs.Step.{value, none, parsedRules}
+use Rattle.parsing.specs.Step.{value, none, parsedRules}
 use Rattle.writer.specs.Writes.{Writes, Took, parsedContent, rulesBytes, rulesAt}
-use Rattle.reader.specs.declared.Step.{Step}
-use Rattle.reader.specs.declared.Step.the-variants.{Good, Bad}
+use Rattle.parsing.specs.declared.Step.{Step}
+use Rattle.parsing.specs.declared.Step.the-variants.{Good, Bad}
 use Rattle.writer.proofs.Writing.{writes-refused, writes-then, writes-exact, writes-map, writes-as, spelled-numbers}
 use Rattle.writer.proofs.AtomWriting.{counted-refused, counted-written}
 

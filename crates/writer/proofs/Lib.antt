@@ -1,8 +1,8 @@
 pub mod AtomWriting
 pub mod Bytes
 pub mod ContentWriting
-pub mod Places
 pub mod RoundTrip
 pub mod RuleWriting
 pub mod Spelling
 pub mod Writing
+pub mod Turns

@@ -9,13 +9,13 @@ use Rattle.model.specs.Rules.{Atom, Rule}
 use Rattle.model.specs.Format.{Parsed, bad, andThen, many, byte, atoms, sound, rule, atomsBytes, ruleBytes}
 use Rattle.model.specs.Form.{spaced, groupAt, ruleAt}
 use Rattle.laws.proofs.Places.{length-spaced}
-use Rattle.reader.specs.Step.{value, none, atomsSet}
-use Rattle.reader.specs.Heads.{fault}
+use Rattle.parsing.specs.Step.{value, none, atomsSet}
+use Rattle.parsing.specs.Heads.{fault}
 use Rattle.writer.specs.Writes.{Agree, Written, Writes, Took}
-use Rattle.reader.specs.declared.Step.{Step}
-use Rattle.reader.specs.declared.Step.the-variants.{Good, Bad}
-use Rattle.reader.proofs.Parsing.{step-good, step-bad, andThen-good}
-use Rattle.reader.proofs.Heads.{of, sound-good, sound-bad}
+use Rattle.parsing.specs.declared.Step.{Step}
+use Rattle.parsing.specs.declared.Step.the-variants.{Good, Bad}
+use Rattle.parsing.proofs.Parsing.{step-good, step-bad, andThen-good}
+use Rattle.parsing.proofs.Heads.{of, sound-good, sound-bad}
 use Rattle.writer.proofs.Writing.{written-bad, written-good, writes-refused, writes-then, writes-as}
 
 -- the test of a rule after its disjuncts
@@ -59,18 +59,18 @@ module _ (b : List Atom) (i : ℕ) (heads : List ℕ → Parsed (List (List Atom
 
 -- body, count and disjuncts
 
-module _ (form arities : List ℕ) (at i v : ℕ) (before mid : List ℕ) (r : Step) (here : v ≡ getD form at 0)
-    (h : Writes atomsSet (λ bs. atoms bs arities i) i (atomsBytes (groupAt form arities (at + 1))) before r mid) where
+module _ (form arities : List ℕ) (at i v : ℕ) (before mid : List ℕ) (r : Step) (here : v ≡ getD form at 0) (place : ℕ) (there : place ≡ at + 1)
+    (h : Writes atomsSet (λ bs. atoms bs arities i) i (atomsBytes (groupAt form arities place)) before r mid) where
   abbrev heads : List (List Atom)
   heads = spaced (groupAt form arities) 21 v (at + 22)
 
   abbrev later : List ℕ
   later = (v ∷ []) ++ collect atomsBytes heads
 
-  rule-spelled : atomsBytes (groupAt form arities (at + 1)) ++ later ≡ ruleBytes (ruleAt form arities at)
+  rule-spelled : atomsBytes (groupAt form arities place) ++ later ≡ ruleBytes (ruleAt form arities at)
   unfolding ruleBytes ruleAt
   rule-spelled =
-      let o : at + 1 ≡ suc at = omega arith in
+      let o : place ≡ suc at = omega arith in
       let s : later ≡ length heads ∷ collect atomsBytes heads = ap (λ (x : ℕ). x ∷ collect atomsBytes heads) (sym (length-spaced (groupAt form arities) 21 v (at + 22))) in
       rw (o, s, here)
 
@@ -78,14 +78,14 @@ module _ (form arities : List ℕ) (at i v : ℕ) (before mid : List ℕ) (r : S
   unfolding rule
   body-refused m p after e =
       writes-as none _ i _ _ before r after rule-spelled
-      (writes-refused atomsSet none (λ bs. atoms bs arities i) _ i (atomsBytes (groupAt form arities (at + 1))) later before r mid h m p after e)
+      (writes-refused atomsSet none (λ bs. atoms bs arities i) _ i (atomsBytes (groupAt form arities place)) later before r mid h m p after e)
 
   module _ (set j : ℕ) (e : r ≡ Good set j) (r2 : Step) (mid2 : List ℕ) (f : Writes value (λ bs. byte bs 1 4 6 j) j (v ∷ []) mid r2 mid2) where
     pub count-refused : (m p : ℕ) (after : List ℕ) → r2 ≡ Bad m p → Writes none (λ bs. rule bs arities i) i (ruleBytes (ruleAt form arities at)) before r2 after
     unfolding rule
     count-refused m p after g =
         writes-as none _ i _ _ before r2 after rule-spelled
-        (writes-then atomsSet none (λ bs. atoms bs arities i) _ i (atomsBytes (groupAt form arities (at + 1))) later before r mid h set j r2 after e
+        (writes-then atomsSet none (λ bs. atoms bs arities i) _ i (atomsBytes (groupAt form arities place)) later before r mid h set j r2 after e
         (λ b k. writes-refused value none (λ bs. byte bs 1 4 6 j) _ j (v ∷ []) (collect atomsBytes heads) mid r2 mid2 f m p after g))
 
     pub rule-written : (u k : ℕ) (s : Step) (after : List ℕ) → r2 ≡ Good u k → Took r2 v 1 4 j
@@ -95,7 +95,7 @@ module _ (form arities : List ℕ) (at i v : ℕ) (before mid : List ℕ) (r : S
     unfolding rule
     rule-written u k s after g t w =
         writes-as none _ i _ _ before s after rule-spelled
-        (writes-then atomsSet none (λ bs. atoms bs arities i) _ i (atomsBytes (groupAt form arities (at + 1))) later before r mid h set j s after e
+        (writes-then atomsSet none (λ bs. atoms bs arities i) _ i (atomsBytes (groupAt form arities place)) later before r mid h set j s after e
         (λ b x.
         writes-then value none (λ bs. byte bs 1 4 6 j) _ j (v ∷ []) (collect atomsBytes heads) mid r2 mid2 f u k s after g
         (λ n y. rest b (sym x) n y)))

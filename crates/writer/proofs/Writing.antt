@@ -8,12 +8,12 @@ use lib.ListN.{length, getD, drop, set}
 use lib.Seq.{getD-set-same, getD-set-other}
 use Rattle.model.specs.Format.{Parsed, good, bad, andThen, many, byte}
 use Rattle.laws_format.proofs.Parsers.{drop-past, drop-place}
-use Rattle.reader.specs.Step.{stepOf, value}
+use Rattle.parsing.specs.Step.{stepOf, value}
 use Rattle.writer.specs.Writes.{Agree, Written, Writes, Ends, Took, Small}
-use Rattle.reader.specs.declared.Step.{Step}
-use Rattle.reader.specs.declared.Step.the-variants.{Good, Bad}
-use Rattle.reader.proofs.Parsing.{step-good, step-bad, bad-is-not-good, byte-below, byte-above, byte-within, byte-good, andThen-good}
-use Rattle.reader.proofs.Many.{Progress, begun, more, ended, refused}
+use Rattle.parsing.specs.declared.Step.{Step}
+use Rattle.parsing.specs.declared.Step.the-variants.{Good, Bad}
+use Rattle.parsing.proofs.Parsing.{step-good, step-bad, bad-is-not-good, byte-below, byte-above, byte-within, byte-good, andThen-good}
+use Rattle.parsing.proofs.Many.{Progress, begun, more, ended, refused}
 
 -- a refusal and a value
 

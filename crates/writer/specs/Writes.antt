@@ -4,13 +4,36 @@ use mathlib.Core.Path.{_≡_}
 use mathlib.Core.List.{List, _∷_, _++_}
 use Prim.Native.Nat.{ℕ, _+_, _/_, _%_, _≤_, _<_}
 use lib.ListN.{length, getD, drop, set}
-use Rattle.model.specs.Lists.{collect}
-use Rattle.model.specs.Rules.{Rule, RuleSet}
-use Rattle.model.specs.Format.{Parsed, good, andThen, many, byte, ruleBytes}
-use Rattle.model.specs.Form.{spaced, ruleAt}
-use Rattle.reader.specs.Step.{stepOf, parsedRules}
-use Rattle.reader.specs.declared.Step.{Step}
-use Rattle.reader.specs.declared.Step.the-variants.{Good}
+use Rattle.model.specs.Limits.{predicateLimit}
+use Rattle.model.specs.Lists.{collect, numbersFrom}
+use Rattle.model.specs.Rules.{Atom, Rule, RuleSet}
+use Rattle.model.specs.Format.{Parsed, good, andThen, many, byte, atoms, atomsBytes, ruleBytes}
+use Rattle.model.specs.Form.{aritiesPlace, formLength, groupWidth, ruleWidth, spaced, groupAt, ruleAt}
+use Rattle.parsing.specs.Step.{stepOf, atomsSet, Arities, parsedRules}
+use Rattle.parsing.specs.Heads.{fault}
+use Rattle.parsing.specs.declared.Step.{Step}
+use Rattle.parsing.specs.declared.Step.the-variants.{Good}
+
+-- w numbers of a form stand from a place on, and w bytes have room from i on
+pub record Fits (at w i : ℕ) (out : List ℕ) : Type 0 where
+  pub within : at + w ≤ formLength
+  pub room : i + w ≤ length out
+
+-- the first n arities of a form
+abbrev pub aritiesIn : List ℕ → ℕ → List ℕ
+aritiesIn form n = numbersFrom form aritiesPlace n
+
+-- they are those of a rule set
+pub record Declared (form : List ℕ) (n : ℕ) : Type 0 where
+  pub arities : Arities (aritiesIn form n)
+  pub few : n ≤ predicateLimit
+
+-- the longest rule set has so many bytes, and so many behind its length
+abbrev pub bytesRoom : ℕ
+bytesRoom = 6855
+
+abbrev pub contentRoom : ℕ
+contentRoom = 6851
 
 -- the same bytes behind the length and before i
 pub record Agree (bs : List ℕ) (i : ℕ) (out : List ℕ) : Type 0 where
@@ -24,6 +47,13 @@ pub record Written {A : Type 0} (keep : A → ℕ) (parsed : Parsed A) (bs rest 
 -- `spelled` stands at i of whatever bytes are parsed
 pub record Writes {A : Type 0} (keep : A → ℕ) (parser : List ℕ → Parsed A) (i : ℕ) (spelled before : List ℕ) (r : Step) (after : List ℕ) : Type 0 where
   pub run : (bs rest : List ℕ) → drop i bs ≡ spelled ++ rest → Agree bs i before → Written keep (parser bs) bs rest r after
+
+-- `count` disjuncts of the rule at a place, for whatever body has this set of variables; what is kept is the fault of the rule that has them
+abbrev pub WritesHead : List ℕ → ℕ → ℕ → ℕ → ℕ → ℕ → List ℕ → Step → List ℕ → Type 0
+WritesHead form n body count rule i before r after =
+    (b : List Atom) → body ≡ atomsSet b
+    → Writes (λ ds. fault (record { body = b; head = ds })) (λ bs. many count (atoms bs (aritiesIn form n)) i) i
+    (collect atomsBytes (spaced (groupAt form (aritiesIn form n)) groupWidth count (rule + 22))) before r after
 
 -- at most w bytes
 pub record Ends (r : Step) (i w : ℕ) : Type 0 where
@@ -46,13 +76,13 @@ unfoldable pub rulesBytes : List Rule → List ℕ
 rulesBytes rs = length rs ∷ collect ruleBytes rs
 
 unfoldable pub rulesAt : List ℕ → List ℕ → List Rule
-rulesAt form arities = spaced (ruleAt form arities) 106 (getD form 1 0) 2
+rulesAt form arities = spaced (ruleAt form arities) ruleWidth (getD form 1 0) 2
 
 -- all but the test that the bytes end there
 unfoldable pub parsedContent : List ℕ → Parsed RuleSet
 parsedContent bs =
     andThen (byte bs 1 1 3 4) (λ v i.
-    andThen (byte bs 1 64 4 i) (λ n j.
+    andThen (byte bs 1 predicateLimit 4 i) (λ n j.
     andThen (many n (byte bs 1 4 4) j) (λ arities k.
     andThen (parsedRules bs arities k) (λ rs e. good (record { arities = arities; rules = rs }) e))))
 

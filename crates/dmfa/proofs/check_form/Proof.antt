@@ -5,11 +5,12 @@ use Prim.Native.Nat.{ℕ, _≤_}
 use native.Mathlib.Omega.{arith}
 use lib.ListN.{length, drop, replicate}
 use Rattle.model.specs.Form.{decoded}
-use Rattle.form.specs.Functions.{places, Numbered}
+use Rattle.form_functions.specs.Functions.{places, Numbered}
 use Rattle.form.proofs.Places.{few-rules}
-use Rattle.form.proofs.Numbering.{numbering-numbered}
-use Rattle.rows.specs.Judging.{judged}
-use Rattle.laws_dmfa.proofs.Judging.{leftBy}
+use Rattle.form_functions.proofs.Numbering.{numbering-numbered}
+use Rattle.rows.specs.Judging.{judged, leftBy}
+use Rattle.dmfa.specs.Judging.{smallRoom, CheckedAs}
+use Rattle.dmfa.specs.declared.Checked.{Checked}
 use borrow.Author.Needs.{needs}
 use Rattle.dmfa.proofs.check_form.Statement.{statement}
 use Rattle.dmfa.proofs.check_form.Tie as tie
@@ -36,37 +37,47 @@ slice-aggregate-check-small : tie.Need-slice-aggregate-check-small
 slice-aggregate-check-small c = search needs
 
 check-small-requires : tie.Need-check-small-requires
-check-small-requires c κs = let s = c .before .before .before .before .before .before .before .before .before in (s .pre .0, numbered (c .before .before .before .before), s .pre .1, s .pre .2)
+check-small-requires c κs = let s = c .before .before .before .before .before .before .before .before .before in record { held = s .pre .0; numbered = numbered (c .before .before .before .before); terms-long = s .pre .1; facts-long = s .pre .2 }
+
+enum-known-small : tie.Need-enum-known-small
+enum-known-small c = search needs
+
+enum-told : tie.Need-enum-told
+enum-told c = search needs
 
 slice-aggregate-check-large : tie.Need-slice-aggregate-check-large
 slice-aggregate-check-large c = search needs
 
 check-large-requires : tie.Need-check-large-requires
 check-large-requires c κs =
-    let d = c .before .before .before .before .before .before .before .before .check-small in
-    let s = c .before .before .before .before .before .before .before .before .before .before .before .before .before .before .before .before .before .before in
-    (s .pre .0, numbered (c .before .before .before .before .before .before .before .before .before .before .before .before .before), omega (arith, d .kept .1 .1 .0, s .pre .1), omega (arith, d .kept .1 .1 .1 .0, s .pre .2))
+    let d = c .before .before .before .before .before .before .before .before .before .check-small in
+    let s = c .before .before .before .before .before .before .before .before .before .before .before .before .before .before .before .before .before .before .before in
+    record { held = s .pre .0; numbered = numbered (c .before .before .before .before .before .before .before .before .before .before .before .before .before .before); terms-long = omega (arith, d .kept .1 .1 .0, s .pre .1); facts-long = omega (arith, d .kept .1 .1 .1 .0, s .pre .2) }
 
 same-length : tie.Need-same-length
-same-length c = c .before .before .before .before .check-large .kept .1 .1 .0 ∙ c .before .before .before .before .before .before .before .before .before .before .before .before .before .check-small .kept .1 .1 .0
+same-length c = search needs
 
 same-length-2 : tie.Need-same-length-2
-same-length-2 c = c .before .before .before .before .check-large .kept .1 .1 .1 .0 ∙ c .before .before .before .before .before .before .before .before .before .before .before .before .before .check-small .kept .1 .1 .1 .0
+same-length-2 c = search needs
 
 returns : tie.Need-returns
 returns c =
-    let s = c .before .before .before .before .before .before .before .before .before .before .before .before .before .before .before .before .before .before .before .before .before .before .before in
-    let (p, q) = c .before .before .before .before .before .before .before .before .before .before .before .before .before .check-small .ensures .1 (c .before .before .before .before .before .before .before .before .if1 .taken) in
-    c .before .before .before .before .check-large .ensures ∙ ap₂ (leftBy (judged (decoded (s .args .form .now)))) p q
+    let a = c .before .before .before .before .before .before .before .before .before .before .before .before .before .before .before .before .before .args in
+    let d = c .before .before .before .before .before .before .before .check-small in
+    subst (λ (x : Checked). CheckedAs (a .form .now) smallRoom (a .terms .now) (a .facts .now) x (d .last .1 .1 .0) (d .last .1 .1 .1 .0)) (c .before .small .given .1) (d .ensures)
 
 same-length-3 : tie.Need-same-length-3
-same-length-3 c = search needs
+same-length-3 c = c .before .before .before .before .check-large .kept .1 .1 .0 ∙ c .before .before .before .before .before .before .before .before .before .before .before .before .before .before .check-small .kept .1 .1 .0
 
 same-length-4 : tie.Need-same-length-4
-same-length-4 c = search needs
+same-length-4 c = c .before .before .before .before .check-large .kept .1 .1 .1 .0 ∙ c .before .before .before .before .before .before .before .before .before .before .before .before .before .before .check-small .kept .1 .1 .1 .0
 
 returns-2 : tie.Need-returns-2
-returns-2 c = c .before .before .before .before .before .check-small .ensures .0 (c .if1 .left)
+returns-2 c =
+    let a = c .before .before .before .before .before .before .before .before .before .before .before .before .before .before .before .before .before .before .before .before .before .before .before .before .args in
+    let d = c .before .before .before .before .before .before .before .before .before .before .before .before .before .before .check-small in
+    let k = subst (λ (x : Checked). CheckedAs (a .form .now) smallRoom (a .terms .now) (a .facts .now) x (d .last .1 .1 .0) (d .last .1 .1 .1 .0)) (c .before .before .before .before .before .before .before .before .enum-told .given .1) (d .ensures) in
+    c .before .before .before .before .check-large .ensures ∙ ap₂ (leftBy (judged (decoded (a .form .now)))) (k .1) (k .2)
 
 pub check-form-spec : {M : Type 1} → statement M
 check-form-spec =
@@ -76,6 +87,8 @@ check-form-spec =
     number-functions-requires
     slice-aggregate-check-small
     check-small-requires
+    enum-known-small
+    enum-told
     slice-aggregate-check-large
     check-large-requires
     same-length

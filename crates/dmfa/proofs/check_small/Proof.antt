@@ -1,6 +1,6 @@
 -- `dmfa::check_small` meets its contract. Assumes nothing.
 use native.Mathlib.Omega.{arith}
-use Rattle.outputs.proofs.Kept.{kept-none}
+use Rattle.facts.proofs.Kept.{kept-none}
 use borrow.Author.Needs.{needs}
 use Rattle.dmfa.proofs.check_small.Statement.{statement}
 use Rattle.dmfa.proofs.check_small.Tie as tie
@@ -12,7 +12,7 @@ slice-aggregate-check-by-2 : tie.Need-slice-aggregate-check-by-2
 slice-aggregate-check-by-2 c = search needs
 
 check-by-requires : tie.Need-check-by-requires
-check-by-requires c κs = let s = c .before .before .before .before .before .before .before .before in (s .pre .0, s .pre .1, omega arith, kept-none 16390 2049 (omega arith) (omega arith), s .pre .2, s .pre .3)
+check-by-requires c κs = let s = c .before .before .before .before .before .before .before .before in (s .pre, omega arith, kept-none 16390 2049 (omega arith) (omega arith))
 
 same-length : tie.Need-same-length
 same-length c = search needs
@@ -21,7 +21,7 @@ same-length-2 : tie.Need-same-length-2
 same-length-2 c = search needs
 
 returns : tie.Need-returns
-returns c = let d = c .before .before .before .before .before .before .check-by in (d .ensures .0, d .ensures .1)
+returns c = c .before .before .before .before .before .before .check-by .ensures
 
 pub check-small-spec : {M : Type 1} → statement M
 check-small-spec =

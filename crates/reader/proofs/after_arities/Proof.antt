@@ -6,9 +6,10 @@ use Prim.Native.Nat.{ℕ}
 use native.Mathlib.Omega.{arith}
 use lib.ListN.{length}
 use Rattle.model.specs.Form.{encoded}
-use Rattle.reader.specs.Step.{none, parsedRules, afterArities}
-use Rattle.reader.proofs.Lists.{zeros-length}
-use Rattle.reader.proofs.Parsing.{Parses, step-good, refuses}
+use Rattle.parsing.specs.Step.{none, parsedRules}
+use Rattle.reader.specs.Parts.{afterArities}
+use Rattle.parsing.proofs.Lists.{zeros-length}
+use Rattle.parsing.proofs.Parsing.{Parses, step-good, refuses}
 use Rattle.reader.proofs.FormRow.{first, ruled, first-length, places-zeros, listed-length, rules-zeros, ruled-length, form-encoded, ends-good, ends-bad}
 use borrow.Author.Needs.{needs}
 use Rattle.reader.proofs.after_arities.Statement.{statement}
@@ -47,9 +48,6 @@ stored c =
     form-encoded (form (c .before .before .before .before .before .before .before .before .before .before .before .before .before)) (arities (c .before .before .before .before .before .before .before .before .before .before .before .before .before)) (places (c .before .before .before .before .before .before .before .before)) _ (read c .result) (c .before .before .before .before .before .before .before .before .before .before .before .before .before .pre .1) (c .before .before .before .before .before .before .before .before .before .before .before .before .before .pre .0 .few) (c .before .before .before .before .before .before .before .before .copy .ensures)
     (c .before .before .before .before .rules .ensures .stored _ _ (read c .parse))
 
-cast-form : tie.Need-cast-form
-cast-form c = search needs
-
 slice-write-form : tie.Need-slice-write-form
 slice-write-form c = omega (arith, zeros-length 6850 _ (c .before .before .before .pre .1))
 
@@ -59,32 +57,17 @@ sub-copy c = omega (arith, wide (c .before .before .before))
 part-copy-start : tie.Need-part-copy-start
 part-copy-start c = omega (arith, wide (c .before .before .before))
 
-part-copy-end : tie.Need-part-copy-end
-part-copy-end c = search needs
-
 copy-requires : tie.Need-copy-requires
 copy-requires c κs =
     let l = zeros-length 64 _ (places-zeros (form (c .before .before .before .before)) (length (arities (c .before .before .before .before))) (c .before .before .before .before .pre .1)) in
     let h = c .before .before .before .before .pre .0 .few in
     omega arith
 
-sub-rules : tie.Need-sub-rules
-sub-rules c = search needs
-
-part-rules-start : tie.Need-part-rules-start
-part-rules-start c = search needs
-
 part-rules-end : tie.Need-part-rules-end
 part-rules-end c = omega (arith, listed-length (form (c .before .before .before .before .before .before .before)) (length (arities (c .before .before .before .before .before .before .before))) (c .before .before .before .before .before .before .before .pre .1) (places (c .before .before)) (places-length (c .before .before)))
 
 rules-requires : tie.Need-rules-requires
 rules-requires c κs = (c .before .before .before .before .before .before .before .before .pre .0, rules-zeros (form (c .before .before .before .before .before .before .before .before)) (length (arities (c .before .before .before .before .before .before .before .before))) (c .before .before .before .before .before .before .before .before .pre .1) (places (c .before .before .before)) (places-length (c .before .before .before)))
-
-enum-known-read : tie.Need-enum-known-read
-enum-known-read c = search needs
-
-enum-told : tie.Need-enum-told
-enum-told c = search needs
 
 same-length : tie.Need-same-length
 same-length c = whole-length (c .before .before .before .before)
@@ -109,18 +92,18 @@ pub after-arities-spec : {M : Type 1} → statement M
 after-arities-spec =
     tie.close
     (tie.spec
-    cast-form
+    (λ c. search needs)
     slice-write-form
     sub-copy
     part-copy-start
-    part-copy-end
+    (λ c. search needs)
     copy-requires
-    sub-rules
-    part-rules-start
+    (λ c. search needs)
+    (λ c. search needs)
     part-rules-end
     rules-requires
-    enum-known-read
-    enum-told
+    (λ c. search needs)
+    (λ c. search needs)
     same-length
     returns
     same-length-2

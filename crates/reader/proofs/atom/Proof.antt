@@ -4,28 +4,13 @@ use Prim.Native.Nat.{_<_, _-_}
 use native.Mathlib.Omega.{arith}
 use lib.ListN.{length, length-set}
 use Rattle.model.specs.Format.{good, byte, atom}
-use Rattle.reader.specs.Step.{value}
-use Rattle.reader.proofs.Lists.{tail-zeros, tail-length, zeros-length, zeros-self, headed-length}
-use Rattle.reader.proofs.Parsing.{step-value, byte-good, refuses}
+use Rattle.parsing.specs.Step.{value}
+use Rattle.parsing.proofs.Lists.{tail-zeros, tail-length, zeros-length, zeros-self, headed-length}
+use Rattle.parsing.proofs.Parsing.{step-value, byte-good, refuses}
 use Rattle.reader.proofs.Rows.{atom-filled}
 use borrow.Author.Needs.{needs}
 use Rattle.reader.proofs.atom.Statement.{statement}
 use Rattle.reader.proofs.atom.Tie as tie
-
-sub-byte : tie.Need-sub-byte
-sub-byte c = search needs
-
-cast-byte : tie.Need-cast-byte
-cast-byte c = search needs
-
-byte-requires : tie.Need-byte-requires
-byte-requires c κs = search needs
-
-enum-known-head : tie.Need-enum-known-head
-enum-known-head c = search needs
-
-enum-told : tie.Need-enum-told
-enum-told c = search needs
 
 returns : tie.Need-returns
 unfolding atom
@@ -42,17 +27,8 @@ read-declared c =
     let s = c .before .before .before .before .before .before .pre .0 .some in
     omega arith
 
-cast-row : tie.Need-cast-row
-cast-row c = search needs
-
 slice-write-row : tie.Need-slice-write-row
 slice-write-row c = omega (arith, zeros-length 5 _ (c .before .before .before .before .before .before .before .pre .1))
-
-cast-n : tie.Need-cast-n
-cast-n c = search needs
-
-mul-n : tie.Need-mul-n
-mul-n c = search needs
 
 shared-slice-read-n : tie.Need-shared-slice-read-n
 shared-slice-read-n c = read-declared (c .before .before)
@@ -65,9 +41,6 @@ sub-variables c = simp length-set (omega (arith, zeros-length 5 _ (c .before .be
 
 part-variables-start : tie.Need-part-variables-start
 part-variables-start c = simp length-set (omega (arith, zeros-length 5 _ (c .before .before .before .before .before .before .before .before .pre .1)))
-
-part-variables-end : tie.Need-part-variables-end
-part-variables-end c = search needs
 
 variables-requires : tie.Need-variables-requires
 variables-requires c κs =
@@ -89,21 +62,21 @@ pub atom-spec : {M : Type 1} → statement M
 atom-spec =
     tie.close
     (tie.spec
-    sub-byte
-    cast-byte
-    byte-requires
-    enum-known-head
-    enum-told
+    (λ c. search needs)
+    (λ c. search needs)
+    (λ c κs. search needs)
+    (λ c. search needs)
+    (λ c. search needs)
     returns
-    cast-row
+    (λ c. search needs)
     slice-write-row
-    cast-n
-    mul-n
+    (λ c. search needs)
+    (λ c. search needs)
     shared-slice-read-n
     cast-n-2
     sub-variables
     part-variables-start
-    part-variables-end
+    (λ c. search needs)
     variables-requires
     same-length
     returns-2)

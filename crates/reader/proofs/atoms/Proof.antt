@@ -4,22 +4,13 @@ use Prim.Native.Nat.{_≤_}
 use native.Mathlib.Omega.{arith}
 use lib.ListN.{length-set}
 use Rattle.model.specs.Format.{good, byte, atoms}
-use Rattle.reader.specs.Step.{value}
-use Rattle.reader.proofs.Lists.{tail-zeros, zeros-length, headed-length}
-use Rattle.reader.proofs.Parsing.{step-value, byte-good, refuses}
+use Rattle.parsing.specs.Step.{value}
+use Rattle.parsing.proofs.Lists.{tail-zeros, zeros-length, headed-length}
+use Rattle.parsing.proofs.Parsing.{step-value, byte-good, refuses}
 use Rattle.reader.proofs.Rows.{atoms-filled}
 use borrow.Author.Needs.{needs}
 use Rattle.reader.proofs.atoms.Statement.{statement}
 use Rattle.reader.proofs.atoms.Tie as tie
-
-byte-requires : tie.Need-byte-requires
-byte-requires c κs = search needs
-
-enum-known-count : tie.Need-enum-known-count
-enum-known-count c = search needs
-
-enum-told : tie.Need-enum-told
-enum-told c = search needs
 
 returns : tie.Need-returns
 unfolding atoms
@@ -33,23 +24,14 @@ read c = step-value _ _ _ (sym (c .count .given .1) ∙ c .before .before .byte 
 read-few : (c : tie.After-count) → c .count .given .0 .0 ≤ 4
 read-few c = byte-good _ _ _ _ _ _ _ (read c) .most
 
-cast-row : tie.Need-cast-row
-cast-row c = search needs
-
 slice-write-row : tie.Need-slice-write-row
 slice-write-row c = omega (arith, zeros-length 21 _ (c .before .before .before .before .before .before .before .pre .1))
-
-cast-many-atoms : tie.Need-cast-many-atoms
-cast-many-atoms c = search needs
 
 sub-many-atoms : tie.Need-sub-many-atoms
 sub-many-atoms c = simp length-set (omega (arith, zeros-length 21 _ (c .before .before .before .before .before .before .before .pre .1)))
 
 part-many-atoms-start : tie.Need-part-many-atoms-start
 part-many-atoms-start c = simp length-set (omega (arith, zeros-length 21 _ (c .before .before .before .before .before .before .before .pre .1)))
-
-part-many-atoms-end : tie.Need-part-many-atoms-end
-part-many-atoms-end c = search needs
 
 many-atoms-requires : tie.Need-many-atoms-requires
 many-atoms-requires c κs =
@@ -67,16 +49,16 @@ pub atoms-spec : {M : Type 1} → statement M
 atoms-spec =
     tie.close
     (tie.spec
-    byte-requires
-    enum-known-count
-    enum-told
+    (λ c κs. search needs)
+    (λ c. search needs)
+    (λ c. search needs)
     returns
-    cast-row
+    (λ c. search needs)
     slice-write-row
-    cast-many-atoms
+    (λ c. search needs)
     sub-many-atoms
     part-many-atoms-start
-    part-many-atoms-end
+    (λ c. search needs)
     many-atoms-requires
     same-length
     returns-2)

@@ -5,10 +5,10 @@ use native.Mathlib.Omega.{arith}
 use borrow.Author.Needs.{needs}
 use lib.ListN.{length, length-set}
 use Rattle.model.specs.Format.{byte}
-use Rattle.reader.specs.Step.{value}
-use Rattle.reader.proofs.Lists.{single}
-use Rattle.reader.proofs.Parsing.{step-value, step-bad}
-use Rattle.reader.proofs.Many.{Anything, Progress, begun, more-single, finished-single, failed}
+use Rattle.parsing.specs.Step.{value}
+use Rattle.parsing.proofs.Lists.{single}
+use Rattle.parsing.proofs.Parsing.{step-value, step-bad}
+use Rattle.parsing.proofs.Many.{Anything, Progress, begun, more-single, finished-single, failed}
 use Rattle.reader.proofs.many_arities.Statement.{statement}
 use Rattle.reader.proofs.many_arities.Tie as tie
 
@@ -21,46 +21,16 @@ abbrev μ-loop : tie.MeasureT-loop
 loop-holds : tie.Need-loop-holds Inv-loop μ-loop
 loop-holds c = (omega arith, refl, begun _ _ _ _ _ _ 0 tt)
 
-byte-requires : tie.Need-byte-requires Inv-loop μ-loop
-byte-requires c κs = search needs
-
-enum-known-v : tie.Need-enum-known-v Inv-loop μ-loop
-enum-known-v c = search needs
-
-cast-row : tie.Need-cast-row Inv-loop μ-loop
-cast-row c = search needs
-
-mul-row : tie.Need-mul-row Inv-loop μ-loop
-mul-row c = search needs
-
-slice-write-row : tie.Need-slice-write-row Inv-loop μ-loop
-slice-write-row c = search needs
-
-add-k : tie.Need-add-k Inv-loop μ-loop
-add-k c = search needs
-
-loop-less : tie.Need-loop-less Inv-loop μ-loop
-loop-less c = search needs
-
 loop-again : tie.Need-loop-again Inv-loop μ-loop
 loop-again c =
     let h = c .before .before .before .before .before .loop .inv in
     let e = step-value _ _ _ (sym (c .before .v .given .1) ∙ c .before .before .before .byte .ensures) in
     (omega arith, simp length-set (h .1), more-single _ _ _ _ _ _ _ _ _ (h .2) _ _ 0 (omega arith) (omega arith) e (λ vs m. tt))
 
-enum-known-refusal : tie.Need-enum-known-refusal Inv-loop μ-loop
-enum-known-refusal c = search needs
-
-same-length : tie.Need-same-length Inv-loop μ-loop
-same-length c = search needs
-
 returns : tie.Need-returns Inv-loop μ-loop
 returns c =
     failed _ _ _ _ _ _ _ _ _ _ _ (c .before .before .before .before .before .loop .inv .2) _ _ _ _ _ (omega arith)
     (step-bad value _ _ _ (sym (c .before .refusal .given .1) ∙ c .before .before .before .byte .ensures))
-
-same-length-2 : tie.Need-same-length-2 Inv-loop μ-loop
-same-length-2 c = search needs
 
 returns-2 : tie.Need-returns-2 Inv-loop μ-loop
 returns-2 c = finished-single _ _ _ _ _ _ _ _ _ (c .before .loop .inv .2) _ _ _ (λ vs m. refl) (omega arith) (c .before .before .before .before .pre .1)
@@ -72,16 +42,16 @@ many-arities-spec =
     Inv-loop
     μ-loop
     loop-holds
-    byte-requires
-    enum-known-v
-    cast-row
-    mul-row
-    slice-write-row
-    add-k
-    loop-less
+    (λ c κs. search needs)
+    (λ c. search needs)
+    (λ c. search needs)
+    (λ c. search needs)
+    (λ c. search needs)
+    (λ c. search needs)
+    (λ c. search needs)
     loop-again
-    enum-known-refusal
-    same-length
+    (λ c. search needs)
+    (λ c. search needs)
     returns
-    same-length-2
+    (λ c. search needs)
     returns-2)

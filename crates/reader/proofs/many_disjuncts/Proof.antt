@@ -1,95 +1,47 @@
--- `reader::many_disjuncts` meets its contract: between turns the loop is as `Progress` says. Assumes nothing.
-use mathlib.Core.Path.{_≡_, refl, sym, _∙_}
-use Prim.Native.Nat.{_≤_, _-_, _*_}
+-- `reader::many_disjuncts` meets its contract: between turns the loop is as `Rows` says. Assumes nothing.
+use mathlib.Core.Path.{sym, _∙_}
+use Prim.Native.Nat.{_-_, _*_}
 use native.Mathlib.Omega.{arith}
 use borrow.Author.Needs.{needs}
-use lib.ListN.{length}
 use Rattle.model.specs.Format.{atoms}
-use Rattle.model.specs.Form.{group}
-use Rattle.reader.specs.Step.{atomsSet}
-use Rattle.reader.proofs.Lists.{zeros-length}
-use Rattle.reader.proofs.Many.{Progress, begun, finished, part-unfilled, more-part, failed-part, part-length}
-use Rattle.reader.proofs.Heads.{Keeps, seen-none, keeps-more, fault-is}
+use Rattle.model.specs.Form.{groupWidth, group}
+use Rattle.parsing.specs.Step.{atomsSet}
+use Rattle.parsing.proofs.Many.{Rows, rows-begun, rows-lent, rows-length, rows-more, rows-failed, rows-same, rows-finished}
+use Rattle.parsing.proofs.Heads.{Keeps, keeps-none, keeps-more, fault-is}
 use Rattle.reader.proofs.many_disjuncts.Statement.{statement}
 use Rattle.reader.proofs.many_disjuncts.Tie as tie
 
 abbrev Inv-loop : tie.InvT-loop
-Inv-loop bytes arities body n i rows₀ seen₀ again₀ apart₀ at₀ from₀ k₀ rows seen again apart at from k =
-    (k ≤ n) × (from ≡ 21 * k) × (length rows ≡ 84)
-    × Progress (atoms bytes arities) (Keeps body) group n i rows₀ k at from (seen, again, apart) rows
+Inv-loop bytes arities body n i rows₀ heads₀ at₀ from₀ k₀ rows heads at from k =
+    Rows (atoms bytes arities) (Keeps body) group groupWidth (4 * groupWidth) n i rows₀ k at from heads rows
 
 abbrev μ-loop : tie.MeasureT-loop
-μ-loop bytes arities body n i rows₀ seen₀ again₀ apart₀ at₀ from₀ k₀ rows seen again apart at from k =
-    n - k
+μ-loop bytes arities body n i rows₀ heads₀ at₀ from₀ k₀ rows heads at from k = n - k
 
 loop-holds : tie.Need-loop-holds Inv-loop μ-loop
-loop-holds c = (omega arith, refl, zeros-length 84 _ (c .before .before .before .pre .1 .1), begun _ _ _ _ _ _ _ (λ b e. seen-none _))
-
-add-atoms : tie.Need-add-atoms Inv-loop μ-loop
-add-atoms c = search needs
-
-mul-atoms : tie.Need-mul-atoms Inv-loop μ-loop
-mul-atoms c = search needs
-
-sub-atoms : tie.Need-sub-atoms Inv-loop μ-loop
-sub-atoms c = search needs
-
-part-atoms-start : tie.Need-part-atoms-start Inv-loop μ-loop
-part-atoms-start c = search needs
-
-part-atoms-end : tie.Need-part-atoms-end Inv-loop μ-loop
-part-atoms-end c = search needs
+loop-holds c = rows-begun (c .before .before .before .before .pre .1 .1) (keeps-none _ _ (c .none .ensures))
 
 atoms-requires : tie.Need-atoms-requires Inv-loop μ-loop
-atoms-requires c κs =
-    let h = c .before .before .loop .inv in
-    let a = c .before .before .before .before .before .before .pre in
-    (a .0, part-unfilled _ _ _ atomsSet _ _ _ _ _ _ _ _ (h .3) 84 21 (a .1 .1) (omega arith))
-
-enum-known-set : tie.Need-enum-known-set Inv-loop μ-loop
-enum-known-set c = search needs
-
-lacks-requires : tie.Need-lacks-requires Inv-loop μ-loop
-lacks-requires c κs = search needs
-
-add-from : tie.Need-add-from Inv-loop μ-loop
-add-from c = search needs
-
-add-k : tie.Need-add-k Inv-loop μ-loop
-add-k c = search needs
-
-loop-less : tie.Need-loop-less Inv-loop μ-loop
-loop-less c = search needs
+atoms-requires c κs = let a = c .before .before .before .before .before .before .before .pre in (a .0, rows-lent (c .before .before .loop .inv) (a .1 .1) (omega arith))
 
 loop-again : tie.Need-loop-again Inv-loop μ-loop
 loop-again c =
-    let h = c .before .before .before .before .before .before .before .before .before .loop .inv in
     let f = c .before .before .before .before .before .before .atoms in
-    (omega arith, omega arith, part-length (c .before .before .before .before .before .before .before .before .before .loop .from) 21 (c .before .before .before .before .before .before .before .before .before .loop .rows) (f .last .1 .1 .1 .0) (f .kept .1 .1 .1 .0) ∙ h .2, more-part _ _ _ atomsSet _ _ _ _ _ _ _ _ (h .3) 21 _ _ _ _ _ (omega arith) (omega arith) (c .before .before .set .given .1) (f .ensures) (f .kept .1 .1 .1 .0) (keeps-more _ _ _ _ _ _ (c .before .before .before .before .before .before .before .before .before .before .before .before .before .fits .body .fits) (c .lacks .ensures)))
-
-enum-known-refusal : tie.Need-enum-known-refusal Inv-loop μ-loop
-enum-known-refusal c = search needs
+    rows-more (c .before .before .before .before .before .before .before .before .before .loop .inv) (c .before .before .before .before .before .before .before .before .before .before .before .before .before .before .pre .1 .1) _ (f .kept .1 .1 .1 .0) atomsSet _ _ _ _ (omega arith) (omega arith) (c .before .before .set .given .1) (f .ensures)
+    (keeps-more _ _ _ _ (c .before .before .before .before .before .before .before .before .before .before .before .before .before .before .fits .body .fits) (c .with .ensures))
 
 same-length : tie.Need-same-length Inv-loop μ-loop
-same-length c =
-    let h = c .before .before .before .before .before .before .before .before .loop .inv in
-    let f = c .before .before .before .before .before .atoms in
-    part-length (c .before .before .before .before .before .before .before .before .loop .from) 21 (c .before .before .before .before .before .before .before .before .loop .rows) (f .last .1 .1 .1 .0) (f .kept .1 .1 .1 .0) ∙ h .2 ∙ sym (zeros-length 84 _ (c .before .before .before .before .before .before .before .before .before .before .before .before .pre .1 .1))
+same-length c = rows-length (c .before .before .before .before .before .before .before .before .loop .inv) (c .before .before .before .before .before .before .before .before .before .before .before .before .before .pre .1 .1) (c .before .before .before .before .before .atoms .last .1 .1 .1 .0) (c .before .before .before .before .before .atoms .kept .1 .1 .1 .0)
 
 returns : tie.Need-returns Inv-loop μ-loop
-returns c =
-    let h = c .before .before .before .before .before .before .before .before .loop .inv in
-    λ b e. failed-part _ _ _ atomsSet _ _ _ _ _ _ _ _ (h .3) _ _ _ _ _ _ _ (omega arith) (c .before .refusal .given .1) (c .before .before .before .before .before .atoms .ensures)
-
-fault-requires : tie.Need-fault-requires Inv-loop μ-loop
-fault-requires c κs = search needs
+returns c b e = rows-failed (c .before .before .before .before .before .before .before .before .loop .inv) (c .before .before .before .before .before .before .before .before .before .before .before .before .before .pre .1 .1) atomsSet _ _ _ _ _ _ _ (omega arith) (c .before .refusal .given .1) (c .before .before .before .before .before .atoms .ensures)
 
 same-length-2 : tie.Need-same-length-2 Inv-loop μ-loop
-same-length-2 c = c .before .before .loop .inv .2 ∙ sym (zeros-length 84 _ (c .before .before .before .before .before .before .pre .1 .1))
+same-length-2 c = rows-same (c .before .before .loop .inv) (c .before .before .before .before .before .before .before .pre .1 .1)
 
 returns-2 : tie.Need-returns-2 Inv-loop μ-loop
 returns-2 c b e =
-    finished _ _ _ _ _ _ _ _ _ _ _ (c .before .before .loop .inv .3) _ _ 84 (λ ds m. fault-is b ds _ _ _ (m b e) ∙ sym (c .fault .ensures)) (omega arith) (c .before .before .before .before .before .before .pre .1 .1)
+    rows-finished (c .before .before .loop .inv) (c .before .before .before .before .before .before .before .pre .1 .1) _ _ (λ ds m. fault-is b ds _ _ _ (m b e) ∙ sym (c .refusal2 .ensures)) (omega arith)
 
 pub many-disjuncts-spec : {M : Type 1} → statement M
 many-disjuncts-spec =
@@ -97,22 +49,23 @@ many-disjuncts-spec =
     (tie.spec
     Inv-loop
     μ-loop
+    (λ c κs. search needs)
     loop-holds
-    add-atoms
-    mul-atoms
-    sub-atoms
-    part-atoms-start
-    part-atoms-end
+    (λ c. search needs)
+    (λ c. search needs)
+    (λ c. search needs)
+    (λ c. search needs)
+    (λ c. search needs)
     atoms-requires
-    enum-known-set
-    lacks-requires
-    add-from
-    add-k
-    loop-less
+    (λ c. search needs)
+    (λ c κs. search needs)
+    (λ c. search needs)
+    (λ c. search needs)
+    (λ c. search needs)
     loop-again
-    enum-known-refusal
+    (λ c. search needs)
     same-length
     returns
-    fault-requires
+    (λ c κs. search needs)
     same-length-2
     returns-2)

@@ -3,8 +3,8 @@ use mathlib.Core.Path.{_≡_, refl, sym, ap, _∙_}
 use Prim.Native.Nat.{ℕ, _≤_, _+_}
 use lib.ListN.{length}
 use Rattle.model.specs.Format.{ruleSet, read}
-use Rattle.reader.specs.Step.{none, zeros}
-use Rattle.reader.proofs.Parsing.{Parses, step-good, step-bad}
+use Rattle.parsing.specs.Step.{none, zeros}
+use Rattle.parsing.proofs.Parsing.{Parses, step-good, step-bad}
 use Rattle.laws_format.proofs.RoundTrip.{reading-short, reading-bad}
 use Rattle.reader.proofs.Reading.{read-short, read-misstated, read-stated, reading-whole}
 use borrow.Author.Needs.{needs}
@@ -28,36 +28,12 @@ returns c = reading-short _ _ (c .if1 .taken)
 returns-2 : tie.Need-returns-2
 returns-2 c = reading-bad _ _ _ _ (c .before .if1 .left) (read-short _ (c .if2 .taken))
 
-stated-requires : tie.Need-stated-requires
-stated-requires c κs = search needs
-
-add-if3 : tie.Need-add-if3
-add-if3 c = search needs
-
 returns-3 : tie.Need-returns-3
 returns-3 c = reading-bad _ _ _ _ (c .before .before .before .if1 .left) (read-misstated _ (c .before .before .if2 .left) (λ e. c .if3 .taken (ap (λ (n : ℕ). n + 4) (c .before .stated .ensures .0) ∙ e)))
-
-slice-aggregate-rule-set : tie.Need-slice-aggregate-rule-set
-slice-aggregate-rule-set c = search needs
 
 rule-set-requires : tie.Need-rule-set-requires
 unfolding zeros
 rule-set-requires c κs = refl
-
-enum-known-end : tie.Need-enum-known-end
-enum-known-end c = search needs
-
-slice-aggregate-copy : tie.Need-slice-aggregate-copy
-slice-aggregate-copy c = search needs
-
-copy-requires : tie.Need-copy-requires
-copy-requires c κs = search needs
-
-enum-known-refusal : tie.Need-enum-known-refusal
-enum-known-refusal c = search needs
-
-same-length : tie.Need-same-length
-same-length c = search needs
 
 returns-4 : tie.Need-returns-4
 returns-4 c =
@@ -74,15 +50,15 @@ read-spec =
     (tie.spec
     returns
     returns-2
-    stated-requires
-    add-if3
+    (λ c κs. search needs)
+    (λ c. search needs)
     returns-3
-    slice-aggregate-rule-set
+    (λ c. search needs)
     rule-set-requires
-    enum-known-end
-    slice-aggregate-copy
-    copy-requires
-    enum-known-refusal
-    same-length
+    (λ c. search needs)
+    (λ c. search needs)
+    (λ c κs. search needs)
+    (λ c. search needs)
+    (λ c. search needs)
     returns-4
     returns-5)

@@ -7,12 +7,12 @@ use lib.ListN.{length}
 use Rattle.model.specs.Format.{good, many, byte, atoms, rule}
 use Rattle.model.specs.Lists.{padded, collect}
 use Rattle.model.specs.Form.{group, ruleRow}
-use Rattle.reader.specs.Step.{value, zeros, atomsSet, Filled}
-use Rattle.reader.specs.Heads.{fault}
-use Rattle.reader.proofs.Lists.{zeros-length}
-use Rattle.reader.proofs.Many.{many-length}
-use Rattle.reader.proofs.Parsing.{Parses, step-good, step-value, byte-good, refuses, continues}
-use Rattle.reader.proofs.Heads.{of}
+use Rattle.parsing.specs.Step.{value, zeros, atomsSet, Filled}
+use Rattle.parsing.specs.Heads.{fault}
+use Rattle.parsing.proofs.Lists.{zeros-length}
+use Rattle.parsing.proofs.Many.{many-length}
+use Rattle.parsing.proofs.Parsing.{Parses, step-good, step-value, byte-good, refuses, continues}
+use Rattle.parsing.proofs.Heads.{of}
 use Rattle.reader.proofs.RuleRow.{bodied, counted, headed, body-zeros, body-length, bodied-length, counted-length, head-zeros, headed-length, headed-rule, rule-good, rule-bad}
 use borrow.Author.Needs.{needs}
 use Rattle.reader.proofs.rule.Statement.{statement}
@@ -57,65 +57,29 @@ heads : (c : tie.After-many-disjuncts)
     → Filled (λ ds. fault (of (body (c .before .before .before .before .before .before .before) .result) ds)) (λ ds. padded 84 (collect group ds)) (many (c .before .before .before .count .given .0 .0) (atoms (bytes (c .before .before .before .before .before .before .before .before .before .before .before)) (arities (c .before .before .before .before .before .before .before .before .before .before .before))) (c .before .before .before .count .given .0 .1 .0)) (c .many-disjuncts .result) (c .many-disjuncts .last .1 .1 .1 .1 .1 .0)
 heads c = c .many-disjuncts .ensures (body (c .before .before .before .before .before .before .before) .result) (sym (body (c .before .before .before .before .before .before .before) .kept))
 
-sub-atoms : tie.Need-sub-atoms
-sub-atoms c = search needs
-
-part-atoms-start : tie.Need-part-atoms-start
-part-atoms-start c = search needs
-
 part-atoms-end : tie.Need-part-atoms-end
 part-atoms-end c = omega (arith, zeros-length 106 _ (c .before .before .before .pre .1))
 
 atoms-requires : tie.Need-atoms-requires
 atoms-requires c κs = (c .before .before .before .before .pre .0, body-zeros _ (c .before .before .before .before .pre .1))
 
-enum-known-body : tie.Need-enum-known-body
-enum-known-body c = search needs
-
-enum-told : tie.Need-enum-told
-enum-told c = search needs
-
-same-length : tie.Need-same-length
-same-length c = search needs
-
 returns : tie.Need-returns
 unfolding rule
 returns c = refuses _ _ _ _ _ _ atomsSet _ _ (c .before .before .before .before .atoms .ensures .answer) (c .enum-told .given .1)
-
-byte-requires : tie.Need-byte-requires
-byte-requires c κs = search needs
-
-enum-known-count : tie.Need-enum-known-count
-enum-known-count c = search needs
-
-enum-told-2 : tie.Need-enum-told-2
-enum-told-2 c = search needs
-
-same-length-2 : tie.Need-same-length-2
-same-length-2 c = search needs
 
 returns-2 : tie.Need-returns-2
 unfolding rule
 returns-2 c =
     continues _ _ _ _ _ _ _ _ (body (c .before .before .before .before) .parse) (refuses _ _ _ _ _ _ value _ _ (c .before .before .byte .ensures) (c .enum-told2 .given .1))
 
-cast-row : tie.Need-cast-row
-cast-row c = search needs
-
 slice-write-row : tie.Need-slice-write-row
 slice-write-row c = omega (arith, bodied-wide (c .before .before .before .before .before .before .before .before .before))
-
-cast-many-disjuncts : tie.Need-cast-many-disjuncts
-cast-many-disjuncts c = search needs
 
 sub-many-disjuncts : tie.Need-sub-many-disjuncts
 sub-many-disjuncts c = omega (arith, counted-wide (c .before))
 
 part-many-disjuncts-start : tie.Need-part-many-disjuncts-start
 part-many-disjuncts-start c = omega (arith, counted-wide (c .before))
-
-part-many-disjuncts-end : tie.Need-part-many-disjuncts-end
-part-many-disjuncts-end c = search needs
 
 many-disjuncts-requires : tie.Need-many-disjuncts-requires
 many-disjuncts-requires c κs =
@@ -140,12 +104,6 @@ stored c =
     (c .before .before .before .before .before .before .before .before .before .before .before .before .before .before .before .atoms .ensures .stored _ _ (body (c .before .before .before .before .before .before .before .before .before .before .before) .parse))
     (heads (c .before .before .before .before) .stored _ _ (head c .parse))
     (many-length _ _ _ _ _ (head c .parse))
-
-enum-known-head : tie.Need-enum-known-head
-enum-known-head c = search needs
-
-enum-told-3 : tie.Need-enum-told-3
-enum-told-3 c = search needs
 
 same-length-3 : tie.Need-same-length-3
 same-length-3 c = whole-length (c .before .before .before .before)
@@ -174,28 +132,28 @@ pub rule-spec : {M : Type 1} → statement M
 rule-spec =
     tie.close
     (tie.spec
-    sub-atoms
-    part-atoms-start
+    (λ c. search needs)
+    (λ c. search needs)
     part-atoms-end
     atoms-requires
-    enum-known-body
-    enum-told
-    same-length
+    (λ c. search needs)
+    (λ c. search needs)
+    (λ c. search needs)
     returns
-    byte-requires
-    enum-known-count
-    enum-told-2
-    same-length-2
+    (λ c κs. search needs)
+    (λ c. search needs)
+    (λ c. search needs)
+    (λ c. search needs)
     returns-2
-    cast-row
+    (λ c. search needs)
     slice-write-row
-    cast-many-disjuncts
+    (λ c. search needs)
     sub-many-disjuncts
     part-many-disjuncts-start
-    part-many-disjuncts-end
+    (λ c. search needs)
     many-disjuncts-requires
-    enum-known-head
-    enum-told-3
+    (λ c. search needs)
+    (λ c. search needs)
     same-length-3
     returns-3
     same-length-4

@@ -5,9 +5,9 @@ use Prim.Native.Nat.{ℕ}
 use native.Mathlib.Omega.{arith}
 use lib.ListN.{length, take}
 use Rattle.model.specs.Format.{good, many, byte, ruleSet}
-use Rattle.reader.specs.Step.{value, none, zeros}
-use Rattle.reader.proofs.Many.{many-length}
-use Rattle.reader.proofs.Parsing.{Parses, step-good, step-value, Within, byte-good, refuses, continues}
+use Rattle.parsing.specs.Step.{value, none, zeros}
+use Rattle.parsing.proofs.Many.{many-length}
+use Rattle.parsing.proofs.Parsing.{Parses, step-good, step-value, Within, byte-good, refuses, continues}
 use Rattle.reader.proofs.FormRow.{arities-good, arities-taken, rule-set-filled}
 use borrow.Author.Needs.{needs}
 use Rattle.reader.proofs.rule_set.Statement.{statement}
@@ -34,56 +34,23 @@ places c = c .before .before .before .many-arities .last .1 .1 .1 .0
 taken : (c : tie.After-listed) → take (c .before .before .before .before .before .before .count .given .0 .0) (places c) ≡ listed c .result
 taken c = arities-taken _ _ _ _ _ (listed c .parse) (places c) (c .before .before .before .many-arities .ensures .stored _ _ (listed c .parse))
 
-byte-requires : tie.Need-byte-requires
-byte-requires c κs = search needs
-
-enum-known-version : tie.Need-enum-known-version
-enum-known-version c = search needs
-
-enum-told : tie.Need-enum-told
-enum-told c = search needs
-
 returns : tie.Need-returns
 unfolding ruleSet
 returns c = refuses _ _ _ _ _ _ value _ _ (c .before .before .byte .ensures) (c .enum-told .given .1)
-
-byte-requires-2 : tie.Need-byte-requires-2
-byte-requires-2 c κs = search needs
-
-enum-known-count : tie.Need-enum-known-count
-enum-known-count c = search needs
-
-enum-told-2 : tie.Need-enum-told-2
-enum-told-2 c = search needs
 
 returns-2 : tie.Need-returns-2
 unfolding ruleSet
 returns-2 c = continues _ _ _ _ _ _ _ _ (version (c .before .before .before .before)) (refuses _ _ _ _ _ _ value _ _ (c .before .before .byte2 .ensures) (c .enum-told2 .given .1))
 
-cast-many-arities : tie.Need-cast-many-arities
-cast-many-arities c = search needs
-
-slice-aggregate-many-arities : tie.Need-slice-aggregate-many-arities
-slice-aggregate-many-arities c = search needs
-
 many-arities-requires : tie.Need-many-arities-requires
 unfolding zeros
 many-arities-requires c κs = (counted (c .before .before) .most, refl)
-
-enum-known-listed : tie.Need-enum-known-listed
-enum-known-listed c = search needs
-
-enum-told-3 : tie.Need-enum-told-3
-enum-told-3 c = search needs
 
 returns-3 : tie.Need-returns-3
 unfolding ruleSet
 returns-3 c =
     continues _ _ _ _ _ _ _ _ (version (c .before .before .before .before .before .before .before .before .before .before))
     (continues _ _ _ _ _ _ _ _ (count (c .before .before .before .before .before .before)) (refuses _ _ _ _ _ _ none _ _ (c .before .before .before .many-arities .ensures .answer) (c .enum-told3 .given .1)))
-
-cast-arities : tie.Need-cast-arities
-cast-arities c = search needs
 
 array-share-prefix-arities : tie.Need-array-share-prefix-arities
 array-share-prefix-arities c =
@@ -99,9 +66,6 @@ after-arities-requires c κs =
     let h = counted (c .before .before .before .before .before .before .before .before .before) in
     (rw (taken (c .before .before .before)) (arities-good _ _ _ _ _ (listed (c .before .before .before) .parse) (h .least) (h .most)), c .before .before .before .before .before .before .before .before .before .before .before .before .before .before .before .before .before .before .pre)
 
-same-length : tie.Need-same-length
-same-length c = search needs
-
 returns-4 : tie.Need-returns-4
 returns-4 c =
     rule-set-filled _ _ _ _ _ (listed (c .before .before .before .before .before .before) .parse) _ _ _ _ _ (version (c .before .before .before .before .before .before .before .before .before .before .before .before .before .before .before .before)) (count (c .before .before .before .before .before .before .before .before .before .before .before .before)) (taken (c .before .before .before .before .before .before)) (c .before .before .after-arities .ensures)
@@ -110,23 +74,23 @@ pub rule-set-spec : {M : Type 1} → statement M
 rule-set-spec =
     tie.close
     (tie.spec
-    byte-requires
-    enum-known-version
-    enum-told
+    (λ c κs. search needs)
+    (λ c. search needs)
+    (λ c. search needs)
     returns
-    byte-requires-2
-    enum-known-count
-    enum-told-2
+    (λ c κs. search needs)
+    (λ c. search needs)
+    (λ c. search needs)
     returns-2
-    cast-many-arities
-    slice-aggregate-many-arities
+    (λ c. search needs)
+    (λ c. search needs)
     many-arities-requires
-    enum-known-listed
-    enum-told-3
+    (λ c. search needs)
+    (λ c. search needs)
     returns-3
-    cast-arities
+    (λ c. search needs)
     array-share-prefix-arities
     slice-aggregate-after-arities
     after-arities-requires
-    same-length
+    (λ c. search needs)
     returns-4)

@@ -4,22 +4,13 @@ use Prim.Native.Nat.{_≤_}
 use native.Mathlib.Omega.{arith}
 use lib.ListN.{length-set}
 use Rattle.model.specs.Format.{good, byte}
-use Rattle.reader.specs.Step.{value, parsedRules}
-use Rattle.reader.proofs.Lists.{tail-zeros, zeros-length, headed-length}
-use Rattle.reader.proofs.Parsing.{step-value, byte-good, refuses}
+use Rattle.parsing.specs.Step.{value, parsedRules}
+use Rattle.parsing.proofs.Lists.{tail-zeros, zeros-length, headed-length}
+use Rattle.parsing.proofs.Parsing.{step-value, byte-good, refuses}
 use Rattle.reader.proofs.RuleRow.{rules-filled}
 use borrow.Author.Needs.{needs}
 use Rattle.reader.proofs.rules.Statement.{statement}
 use Rattle.reader.proofs.rules.Tie as tie
-
-byte-requires : tie.Need-byte-requires
-byte-requires c κs = search needs
-
-enum-known-count : tie.Need-enum-known-count
-enum-known-count c = search needs
-
-enum-told : tie.Need-enum-told
-enum-told c = search needs
 
 returns : tie.Need-returns
 unfolding parsedRules
@@ -33,23 +24,14 @@ read c = step-value _ _ _ (sym (c .count .given .1) ∙ c .before .before .byte 
 read-few : (c : tie.After-count) → c .count .given .0 .0 ≤ 64
 read-few c = byte-good _ _ _ _ _ _ _ (read c) .most
 
-cast-row : tie.Need-cast-row
-cast-row c = search needs
-
 slice-write-row : tie.Need-slice-write-row
 slice-write-row c = omega (arith, zeros-length 6785 _ (c .before .before .before .before .before .before .before .pre .1))
-
-cast-many-rules : tie.Need-cast-many-rules
-cast-many-rules c = search needs
 
 sub-many-rules : tie.Need-sub-many-rules
 sub-many-rules c = simp length-set (omega (arith, zeros-length 6785 _ (c .before .before .before .before .before .before .before .pre .1)))
 
 part-many-rules-start : tie.Need-part-many-rules-start
 part-many-rules-start c = simp length-set (omega (arith, zeros-length 6785 _ (c .before .before .before .before .before .before .before .pre .1)))
-
-part-many-rules-end : tie.Need-part-many-rules-end
-part-many-rules-end c = search needs
 
 many-rules-requires : tie.Need-many-rules-requires
 many-rules-requires c κs =
@@ -67,16 +49,16 @@ pub rules-spec : {M : Type 1} → statement M
 rules-spec =
     tie.close
     (tie.spec
-    byte-requires
-    enum-known-count
-    enum-told
+    (λ c κs. search needs)
+    (λ c. search needs)
+    (λ c. search needs)
     returns
-    cast-row
+    (λ c. search needs)
     slice-write-row
-    cast-many-rules
+    (λ c. search needs)
     sub-many-rules
     part-many-rules-start
-    part-many-rules-end
+    (λ c. search needs)
     many-rules-requires
     same-length
     returns-2)

@@ -11,17 +11,11 @@ use Rattle.reader.proofs.stated.Tie as tie
 small : (c : tie.After-shared-slice-known) (k : ℕ) → getD (c .before .args .bytes .now) k 0 < 256
 small c k = c .shared-slice-known .given k .fits
 
-shared-slice-read-result : tie.Need-shared-slice-read-result
-shared-slice-read-result c = search needs
-
 cast-result : tie.Need-cast-result
 cast-result c = omega (arith, small (c) 0)
 
 mul-result : tie.Need-mul-result
 mul-result c = omega (arith, small (c) 0)
-
-shared-slice-read-result-2 : tie.Need-shared-slice-read-result-2
-shared-slice-read-result-2 c = search needs
 
 cast-result-2 : tie.Need-cast-result-2
 cast-result-2 c = omega (arith, small (c .before) 0, small (c .before) 1)
@@ -32,9 +26,6 @@ add-result c = omega (arith, small (c .before) 0, small (c .before) 1)
 mul-result-2 : tie.Need-mul-result-2
 mul-result-2 c = omega (arith, small (c .before) 0, small (c .before) 1)
 
-shared-slice-read-result-3 : tie.Need-shared-slice-read-result-3
-shared-slice-read-result-3 c = search needs
-
 cast-result-3 : tie.Need-cast-result-3
 cast-result-3 c = omega (arith, small (c .before .before) 0, small (c .before .before) 1, small (c .before .before) 2)
 
@@ -43,9 +34,6 @@ add-result-2 c = omega (arith, small (c .before .before) 0, small (c .before .be
 
 mul-result-3 : tie.Need-mul-result-3
 mul-result-3 c = omega (arith, small (c .before .before) 0, small (c .before .before) 1, small (c .before .before) 2)
-
-shared-slice-read-result-4 : tie.Need-shared-slice-read-result-4
-shared-slice-read-result-4 c = search needs
 
 cast-result-4 : tie.Need-cast-result-4
 cast-result-4 c = omega (arith, small (c .before .before .before) 0, small (c .before .before .before) 1, small (c .before .before .before) 2, small (c .before .before .before) 3)
@@ -61,18 +49,18 @@ pub stated-spec : {M : Type 1} → statement M
 stated-spec =
     tie.close
     (tie.spec
-    shared-slice-read-result
+    (λ c. search needs)
     cast-result
     mul-result
-    shared-slice-read-result-2
+    (λ c. search needs)
     cast-result-2
     add-result
     mul-result-2
-    shared-slice-read-result-3
+    (λ c. search needs)
     cast-result-3
     add-result-2
     mul-result-3
-    shared-slice-read-result-4
+    (λ c. search needs)
     cast-result-4
     add-result-3
     returns)

@@ -20,21 +20,6 @@ returns-3 c =
     let s = c .before .before .before .before .before .before .before in
     out-short (s .args .bytes .now) (s .args .terms .now) (s .args .facts .now) (s .args .out .now) (c .before .before .if1 .left) (c .before .if2 .left) (c .if3 .taken)
 
-check-requires : tie.Need-check-requires
-check-requires c κs = search needs
-
-write-answer-requires : tie.Need-write-answer-requires
-write-answer-requires c κs = search needs
-
-same-length : tie.Need-same-length
-same-length c = search needs
-
-same-length-2 : tie.Need-same-length-2
-same-length-2 c = search needs
-
-same-length-3 : tie.Need-same-length-3
-same-length-3 c = search needs
-
 returns-4 : tie.Need-returns-4
 returns-4 c =
     let k = c .before .before .before .before .before .before .before .before .before .before in
@@ -48,9 +33,9 @@ print-spec =
     returns
     returns-2
     returns-3
-    check-requires
-    write-answer-requires
-    same-length
-    same-length-2
-    same-length-3
+    (λ c κs. search needs)
+    (λ c κs. search needs)
+    (λ c. search needs)
+    (λ c. search needs)
+    (λ c. search needs)
     returns-4)

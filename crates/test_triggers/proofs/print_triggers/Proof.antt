@@ -8,7 +8,7 @@ use borrow.Author.Tests.{not-false}
 use lib.ListN.{length, getD}
 use Rattle.triggers.specs.Match.{Body}
 use Rattle.triggers.specs.Next.{triggersFrom, after}
-use Rattle.triggers.proofs.Order.{zeros-at}
+use Rattle.laws.proofs.Places.{zeros-at}
 use Rattle.triggers.proofs.Search.{after-most}
 use Rattle.triggers.proofs.Entering.{indexed-zeros}
 use Rattle.test_triggers.proofs.print_triggers.Statement.{statement}
@@ -20,9 +20,6 @@ Inv-loop body arities atoms facts count terms index start₀ start = (i : ℕ) �
 abbrev μ-loop : tie.MeasureT-loop
 μ-loop body arities atoms facts count terms index start₀ start = length (triggersFrom (record { atoms = body; arities = arities; count = atoms }) facts count terms start)
 
-slice-aggregate-extend : tie.Need-slice-aggregate-extend Inv-loop μ-loop
-slice-aggregate-extend c = search needs
-
 extend-requires : tie.Need-extend-requires Inv-loop μ-loop
 extend-requires c κs =
     let s = c .before .before in
@@ -32,19 +29,10 @@ extend-requires c κs =
 loop-holds : tie.Need-loop-holds Inv-loop μ-loop
 loop-holds c = λ i. let e = zeros-at 8 i in omega arith
 
-slice-aggregate-next-trigger : tie.Need-slice-aggregate-next-trigger Inv-loop μ-loop
-slice-aggregate-next-trigger c = search needs
-
 next-trigger-requires : tie.Need-next-trigger-requires Inv-loop μ-loop
 next-trigger-requires c κs =
     let s = c .before .before .before .before .before .before in
     (s .pre .0, c .before .loop .inv, c .before .before .before .extend .ensures)
-
-returns : tie.Need-returns Inv-loop μ-loop
-returns c = tt
-
-print-assignment-requires : tie.Need-print-assignment-requires Inv-loop μ-loop
-print-assignment-requires c κs = tt
 
 behind-requires : tie.Need-behind-requires Inv-loop μ-loop
 behind-requires c κs =
@@ -81,13 +69,13 @@ print-triggers-spec =
     (tie.spec
     Inv-loop
     μ-loop
-    slice-aggregate-extend
+    (λ c. search needs)
     extend-requires
     loop-holds
-    slice-aggregate-next-trigger
+    (λ c. search needs)
     next-trigger-requires
-    returns
-    print-assignment-requires
+    (λ c. tt)
+    (λ c κs. tt)
     behind-requires
     loop-less
     loop-again)

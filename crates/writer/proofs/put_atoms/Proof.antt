@@ -5,29 +5,8 @@ use borrow.Author.Needs.{needs}
 use Rattle.writer.proofs.put_atoms.Statement.{statement}
 use Rattle.writer.proofs.put_atoms.Tie as tie
 
-number-requires : tie.Need-number-requires
-number-requires c κs = search needs
-
-put-requires : tie.Need-put-requires
-put-requires c κs = search needs
-
-enum-known-first : tie.Need-enum-known-first
-enum-known-first c = search needs
-
-enum-told : tie.Need-enum-told
-enum-told c = search needs
-
-same-length : tie.Need-same-length
-same-length c = search needs
-
 returns : tie.Need-returns
 returns c = (atoms-refused _ _ _ _ _ _ _ _ (c .before .before .before .before .before .before .number .ensures) (c .before .before .before .before .put .ensures .0) _ _ _ (c .enum-told .given .1), ends-refused _ _ _ _ _ (c .enum-told .given .1))
-
-cast-put-many-atoms : tie.Need-cast-put-many-atoms
-cast-put-many-atoms c = search needs
-
-add-put-many-atoms : tie.Need-add-put-many-atoms
-add-put-many-atoms c = search needs
 
 put-many-atoms-requires : tie.Need-put-many-atoms-requires
 put-many-atoms-requires c κs =
@@ -38,10 +17,7 @@ put-many-atoms-requires c κs =
     let next = t .next _ _ e in
     let l = c .before .before .before .before .before .before .put .kept .1 .1 .1 .1 .1 .0 in
     let h = c .before .before .before .before .before .before .before .before .before .before .before .pre .1 in
-    (c .before .before .before .before .before .before .before .before .before .before .before .pre .0, (omega arith, omega arith, omega arith, omega arith))
-
-same-length-2 : tie.Need-same-length-2
-same-length-2 c = search needs
+    (c .before .before .before .before .before .before .before .before .before .before .before .pre .0, (record { within = omega arith; room = omega arith }, omega arith))
 
 returns-2 : tie.Need-returns-2
 returns-2 c =
@@ -55,14 +31,13 @@ pub put-atoms-spec : {M : Type 1} → statement M
 put-atoms-spec =
     tie.close
     (tie.spec
-    number-requires
-    put-requires
-    enum-known-first
-    enum-told
-    same-length
+    (λ c κs. search needs)
+    (λ c κs. search needs)
+    (λ c. search needs)
+    (λ c. search needs)
+    (λ c. search needs)
     returns
-    cast-put-many-atoms
-    add-put-many-atoms
+    (λ c. search needs)
     put-many-atoms-requires
-    same-length-2
+    (λ c. search needs)
     returns-2)

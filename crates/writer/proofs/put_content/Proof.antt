@@ -10,11 +10,11 @@ use borrow.Author.Needs.{needs}
 use Rattle.writer.proofs.put_content.Statement.{statement}
 use Rattle.writer.proofs.put_content.Tie as tie
 
--- past the version and the count of predicates
-
+-- past the version
 fifth : (c : tie.After-version) → c .version .given .0 .1 .0 ≡ 5
 fifth c = let h = c .before .before .before .before .put .ensures .1 .next _ _ (c .version .given .1) in omega arith
 
+-- and past the count of predicates
 counted : (c : tie.After-first) → (1 ≤ c .first .given .0 .0) × (c .first .given .0 .0 ≤ 64) × (c .first .given .0 .1 .0 ≡ 6)
 counted c =
     let t = c .before .before .before .before .put2 .ensures .1 in
@@ -26,23 +26,8 @@ counted c =
     let h = fifth (c .before .before .before .before .before .before .before .before) in
     (omega arith, omega arith, omega arith)
 
-put-requires : tie.Need-put-requires
-put-requires c κs = search needs
-
-enum-known-version : tie.Need-enum-known-version
-enum-known-version c = search needs
-
-enum-told : tie.Need-enum-told
-enum-told c = search needs
-
-same-length : tie.Need-same-length
-same-length c = search needs
-
 returns : tie.Need-returns
 returns c = (version-refused _ (getD (c .before .before .before .before .before .before .before .before .args .form .now) 0 0) refl _ _ _ (c .before .before .before .before .put .ensures .0) _ _ _ (c .enum-told .given .1), ends-refused _ _ _ _ _ (c .enum-told .given .1))
-
-number-requires : tie.Need-number-requires
-number-requires c κs = search needs
 
 put-requires-2 : tie.Need-put-requires-2
 put-requires-2 c κs =
@@ -51,20 +36,8 @@ put-requires-2 c κs =
     let p = c .before .before .before .before .before .before .before .before .before .before .before .pre in
     omega arith
 
-enum-known-first : tie.Need-enum-known-first
-enum-known-first c = search needs
-
-enum-told-2 : tie.Need-enum-told-2
-enum-told-2 c = search needs
-
-same-length-2 : tie.Need-same-length-2
-same-length-2 c = search needs
-
 returns-2 : tie.Need-returns-2
 returns-2 c = (predicates-refused _ _ (c .before .before .before .before .before .before .number .ensures) _ _ _ (c .before .before .before .before .before .before .before .before .before .before .before .before .put .ensures .0) _ _ (c .before .before .before .before .before .before .before .before .version .given .1) _ _ (c .before .before .before .before .put2 .ensures .0) _ _ _ (c .enum-told2 .given .1), ends-refused _ _ _ _ _ (c .enum-told2 .given .1))
-
-cast-put-arities : tie.Need-cast-put-arities
-cast-put-arities c = search needs
 
 put-arities-requires : tie.Need-put-arities-requires
 put-arities-requires c κs =
@@ -74,20 +47,8 @@ put-arities-requires c κs =
     let p = c .before .before .before .before .before .before .before .before .before .before .before .before .before .before .before .before .before .before .pre in
     (omega arith, omega arith)
 
-enum-known-listed : tie.Need-enum-known-listed
-enum-known-listed c = search needs
-
-enum-told-3 : tie.Need-enum-told-3
-enum-told-3 c = search needs
-
-same-length-3 : tie.Need-same-length-3
-same-length-3 c = search needs
-
 returns-3 : tie.Need-returns-3
 returns-3 c = (arities-refused _ _ (c .before .before .before .before .before .before .before .before .before .before .before .before .before .number .ensures) _ _ _ (c .before .before .before .before .before .before .before .before .before .before .before .before .before .before .before .before .before .before .before .put .ensures .0) _ _ (c .before .before .before .before .before .before .before .before .before .before .before .before .before .before .before .version .given .1) _ _ (c .before .before .before .before .before .before .before .before .before .before .before .put2 .ensures .0) _ _ (c .before .before .before .before .before .before .before .first .given .1) (c .before .before .before .before .before .before .before .before .before .before .before .put2 .ensures .1) _ _ (c .before .before .before .before .put-arities .ensures .0) _ _ _ (c .enum-told3 .given .1), ends-refused _ _ _ _ _ (c .enum-told3 .given .1))
-
-cast-put-rules : tie.Need-cast-put-rules
-cast-put-rules c = search needs
 
 put-rules-requires : tie.Need-put-rules-requires
 put-rules-requires c κs =
@@ -100,10 +61,7 @@ put-rules-requires c κs =
     let m = c .before .before .before .before .before .before .before .before .before .before .before .before .before .put2 .kept .1 .1 .1 .1 .1 .0 in
     let o = a .kept .1 .1 .1 .0 in
     let p = c .before .before .before .before .before .before .before .before .before .before .before .before .before .before .before .before .before .before .before .before .before .before .before .before .before .pre in
-    (record { some = omega arith; few = omega arith; small = a .ensures .2 .each _ _ e }, (omega arith, omega arith))
-
-same-length-4 : tie.Need-same-length-4
-same-length-4 c = search needs
+    (record { arities = record { some = omega arith; few = omega arith; small = a .ensures .2 .each _ _ e }; few = omega arith }, omega arith)
 
 returns-4 : tie.Need-returns-4
 returns-4 c =
@@ -116,24 +74,24 @@ pub put-content-spec : {M : Type 1} → statement M
 put-content-spec =
     tie.close
     (tie.spec
-    put-requires
-    enum-known-version
-    enum-told
-    same-length
+    (λ c κs. search needs)
+    (λ c. search needs)
+    (λ c. search needs)
+    (λ c. search needs)
     returns
-    number-requires
+    (λ c κs. search needs)
     put-requires-2
-    enum-known-first
-    enum-told-2
-    same-length-2
+    (λ c. search needs)
+    (λ c. search needs)
+    (λ c. search needs)
     returns-2
-    cast-put-arities
+    (λ c. search needs)
     put-arities-requires
-    enum-known-listed
-    enum-told-3
-    same-length-3
+    (λ c. search needs)
+    (λ c. search needs)
+    (λ c. search needs)
     returns-3
-    cast-put-rules
+    (λ c. search needs)
     put-rules-requires
-    same-length-4
+    (λ c. search needs)
     returns-4)

@@ -6,26 +6,8 @@ use borrow.Author.Needs.{needs}
 use Rattle.writer.proofs.put_rules.Statement.{statement}
 use Rattle.writer.proofs.put_rules.Tie as tie
 
-number-requires : tie.Need-number-requires
-number-requires c κs = search needs
-
-put-requires : tie.Need-put-requires
-put-requires c κs = search needs
-
-enum-known-first : tie.Need-enum-known-first
-enum-known-first c = search needs
-
-enum-told : tie.Need-enum-told
-enum-told c = search needs
-
-same-length : tie.Need-same-length
-same-length c = search needs
-
 returns : tie.Need-returns
 returns c = (rules-refused _ _ _ _ _ _ _ (c .before .before .before .before .before .before .number .ensures) (c .before .before .before .before .put .ensures .0) _ _ _ (c .enum-told .given .1), ends-refused _ _ _ _ _ (c .enum-told .given .1))
-
-cast-put-many-rules : tie.Need-cast-put-many-rules
-cast-put-many-rules c = search needs
 
 put-many-rules-requires : tie.Need-put-many-rules-requires
 put-many-rules-requires c κs =
@@ -36,10 +18,7 @@ put-many-rules-requires c κs =
     let next = t .next _ _ e in
     let l = c .before .before .before .before .before .before .put .kept .1 .1 .1 .1 .1 .0 in
     let h = c .before .before .before .before .before .before .before .before .before .before .before .pre .1 in
-    (c .before .before .before .before .before .before .before .before .before .before .before .pre .0, (omega arith, omega arith, omega arith, omega arith))
-
-same-length-2 : tie.Need-same-length-2
-same-length-2 c = search needs
+    (c .before .before .before .before .before .before .before .before .before .before .before .pre .0, (omega arith, omega arith))
 
 returns-2 : tie.Need-returns-2
 returns-2 c =
@@ -53,13 +32,13 @@ pub put-rules-spec : {M : Type 1} → statement M
 put-rules-spec =
     tie.close
     (tie.spec
-    number-requires
-    put-requires
-    enum-known-first
-    enum-told
-    same-length
+    (λ c κs. search needs)
+    (λ c κs. search needs)
+    (λ c. search needs)
+    (λ c. search needs)
+    (λ c. search needs)
     returns
-    cast-put-many-rules
+    (λ c. search needs)
     put-many-rules-requires
-    same-length-2
+    (λ c. search needs)
     returns-2)

@@ -9,9 +9,9 @@ use Rattle.model.specs.Format.{good, ruleSet, bytesOf}
 use Rattle.model.specs.Form.{decoded}
 use Rattle.laws_format.proofs.Bytes.{bytesOf-length, drop-bytesOf}
 use Rattle.laws_format.proofs.RoundTrip.{writing-bad, writing-short}
-use Rattle.reader.specs.Step.{none}
+use Rattle.parsing.specs.Step.{none}
 use Rattle.writer.specs.Writes.{Agree, Written, parsedContent, lengthened}
-use Rattle.reader.proofs.Parsing.{Parses, step-good, step-bad}
+use Rattle.parsing.proofs.Parsing.{Parses, step-good, step-bad}
 use Rattle.writer.proofs.Bytes.{content-bad, content-end, front-length, write-whole}
 use borrow.Author.Needs.{needs}
 use Rattle.writer.proofs.write.Statement.{statement}
@@ -70,20 +70,8 @@ module _ (c : tie.After-put-length) where
       ap (λ (xs : List ℕ). length (take end xs)) whole-is
       ∙ front-length (form (c .before .before .before .before .before .before .before)) (local (c .before .before .before .before .before .before .before)) end (stored (c .before .before .before .before)) (local-length (c .before .before .before .before .before .before .before)) (bounds (c .before .before .before .before) .1) (ended (c .before .before .before .before) .1)
 
-slice-aggregate-put-content : tie.Need-slice-aggregate-put-content
-slice-aggregate-put-content c = search needs
-
-put-content-requires : tie.Need-put-content-requires
-put-content-requires c κs = search needs
-
-enum-known-end : tie.Need-enum-known-end
-enum-known-end c = search needs
-
 returns : tie.Need-returns
 returns c = let h = ended (c .before .before) in writing-short _ _ _ _ (h .0) (let e = h .1 in omega arith)
-
-slice-aggregate-put-length : tie.Need-slice-aggregate-put-length
-slice-aggregate-put-length c = search needs
 
 put-length-requires : tie.Need-put-length-requires
 put-length-requires c κs = let h = bounds (c .before .before .before) in let l = local-length (c .before .before .before .before .before .before) in (h .0, h .1, omega arith)
@@ -97,12 +85,6 @@ slice-aggregate-copy c = sym (front (c .before .before))
 copy-requires : tie.Need-copy-requires
 copy-requires c κs = let l = front (c .before .before .before) in let h = c .before .before .before .before .before .if1 .left in omega arith
 
-enum-known-refusal : tie.Need-enum-known-refusal
-enum-known-refusal c = search needs
-
-same-length : tie.Need-same-length
-same-length c = search needs
-
 returns-2 : tie.Need-returns-2
 returns-2 c =
     write-whole (form (c .before .before .before .before .before .before .before .before .before .before .before .before .before)) (local (c .before .before .before .before .before .before .before .before .before .before .before .before .before)) _ (stored (c .before .before .before .before .before .before .before .before .before .before)) (local-length (c .before .before .before .before .before .before .before .before .before .before .before .before .before)) (bounds (c .before .before .before .before .before .before .before .before .before .before) .1) (ended (c .before .before .before .before .before .before .before .before .before .before) .1) (parsed (c .before .before .before .before .before .before .before .before .before .before) .result) _ _ (ended (c .before .before .before .before .before .before .before .before .before .before) .0) (c .before .before .before .before .before .before .before .before .if1 .left)
@@ -115,16 +97,16 @@ pub write-spec : {M : Type 1} → statement M
 write-spec =
     tie.close
     (tie.spec
-    slice-aggregate-put-content
-    put-content-requires
-    enum-known-end
+    (λ c. search needs)
+    (λ c κs. search needs)
+    (λ c. search needs)
     returns
-    slice-aggregate-put-length
+    (λ c. search needs)
     put-length-requires
     array-share-prefix-local
     slice-aggregate-copy
     copy-requires
-    enum-known-refusal
-    same-length
+    (λ c. search needs)
+    (λ c. search needs)
     returns-2
     returns-3)

@@ -1,50 +1,13 @@
 -- `form::counts::body_count` meets its contract. Assumes nothing.
-use mathlib.Core.Path.{sym, ap, _∙_}
-use Prim.Native.Nat.{_+_, _*_}
-use native.Mathlib.Omega.{arith}
 use lib.ListN.{length}
-use Rattle.form.proofs.Places.{body-place, count-atoms, few-rules}
-use borrow.Author.Needs.{needs}
+use Rattle.form.proofs.Places.{rule-below, body-stands, body-read}
 use Rattle.form.proofs.counts.body_count.Statement.{statement}
 use Rattle.form.proofs.counts.body_count.Tie as tie
 
-mul-wide : tie.Need-mul-wide
-mul-wide c =
-    let s = c .before in
-    let h = few-rules (s .args .form .now) (s .pre .0) in
-    let r = s .pre .0 .room in
-    omega arith
-
-add-wide : tie.Need-add-wide
-add-wide c =
-    let s = c .before in
-    let h = few-rules (s .args .form .now) (s .pre .0) in
-    let r = s .pre .0 .room in
-    omega arith
-
-mul-wide-2 : tie.Need-mul-wide-2
-mul-wide-2 c =
-    let s = c .before in
-    let h = few-rules (s .args .form .now) (s .pre .0) in
-    let r = s .pre .0 .room in
-    omega arith
-
-shared-slice-read-wide : tie.Need-shared-slice-read-wide
-shared-slice-read-wide c =
-    let s = c .before .before in
-    let h = few-rules (s .args .form .now) (s .pre .0) in
-    let r = s .pre .0 .room in
-    omega arith
-
-wide-requires : tie.Need-wide-requires
-wide-requires c κs = search needs
-
-returns : tie.Need-returns
-returns c =
-    let s = c .before .before .before in
-    let a = s .args in
-    c .wide .ensures ∙ sym (ap length (body-place (a .form .now) (a .i) (s .pre .1)) ∙ count-atoms (a .form .now) (3 + a .i * 106))
-
 pub body-count-spec : {M : Type 1} → statement M
 body-count-spec =
-    tie.close (tie.spec mul-wide add-wide mul-wide-2 shared-slice-read-wide wide-requires returns)
+    tie.close
+    (tie.spec
+    (λ c κs. rule-below (c .before .pre))
+    (λ c κs. body-stands (c .before .before .pre) (c .body-place .ensures))
+    (λ c. body-read (c .before .before .before .pre) length (c .before .body-place .ensures) (c .group-count .ensures)))

@@ -1,9 +1,7 @@
 -- `outputs::skolem::function_of` meets its contract, by the rank of the variable in its set. Assumes nothing.
-use mathlib.Core.Path.{_≡_, sym, ap, _∙_}
-use Prim.Native.Nat.{ℕ, suc, _+_, _≤_, _<_}
-use native.Mathlib.Nat.{add-assoc}
+use mathlib.Core.Path.{sym, _∙_}
+use Prim.Native.Nat.{_<_}
 use native.Mathlib.Omega.{arith}
-use lib.ListN.{length}
 use Rattle.outputs.proofs.Variables.{rank-below, below-length, functionWith-none, functionWith-some}
 use borrow.Author.Needs.{needs}
 use Rattle.outputs.proofs.skolem.function_of.Statement.{statement}

@@ -1,11 +1,9 @@
 -- `outputs::skolem::functions` meets its contract. The loop's invariant: the variables passed have their functions. Assumes nothing.
-use lib.ListN.{length-set}
-use Rattle.outputs.proofs.Rows.{set-below}
-use mathlib.Core.Path.{_≡_, refl, sym, ap, _∙_}
-use mathlib.Core.List.{List}
-use Prim.Native.Nat.{ℕ, suc, _+_, _-_, _≤_, _<_}
+use lib.ListN.{length-set, length, getD}
+use Rattle.facts.proofs.Rows.{set-below}
+use mathlib.Core.Path.{_≡_, refl, _∙_}
+use Prim.Native.Nat.{ℕ, _-_, _≤_, _<_}
 use native.Mathlib.Omega.{arith}
-use lib.ListN.{length, getD}
 use Rattle.outputs.specs.Skolem.{functionWith}
 use Rattle.outputs.proofs.skolem.functions.Statement.{statement}
 use Rattle.outputs.proofs.skolem.functions.Tie as tie

@@ -1,8 +1,8 @@
 -- `outputs::skolem::place_argument` meets its contract, by the rank of the variable in its set. Assumes nothing.
-use mathlib.Core.Path.{_≡_, sym, ap, _∙_}
-use Prim.Native.Nat.{ℕ, suc, _+_, _≤_, _<_}
+use mathlib.Core.Path.{sym, ap, _∙_}
+use Prim.Native.Nat.{ℕ, _+_, _<_}
 use native.Mathlib.Omega.{arith}
-use lib.ListN.{length, set}
+use lib.ListN.{set}
 use Rattle.outputs.proofs.Variables.{rank-below, below-length, placed-none, placed-some}
 use borrow.Author.Needs.{needs}
 use Rattle.outputs.proofs.skolem.place_argument.Statement.{statement}

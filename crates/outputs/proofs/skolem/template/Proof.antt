@@ -1,14 +1,11 @@
 -- `outputs::skolem::template` meets its contract. The loop's invariant: the row has the numbers of the variables passed. Assumes nothing.
-use Rattle.form.specs.Sets.{elements}
 use Rattle.outputs.specs.Skolem.{placed}
-use Rattle.outputs.proofs.Variables.{elements-length, filledUp-none, filledUp-more, filledUp-all}
-use mathlib.Core.Path.{_≡_, refl, sym, ap, _∙_}
+use Rattle.outputs.proofs.Variables.{elements-length, filledUp-none, filledUp-more, filledUp-all, filledUp}
+use mathlib.Core.Path.{_≡_, ap, _∙_}
 use mathlib.Core.List.{List}
-use Prim.Native.Nat.{ℕ, suc, _+_, _-_, _≤_, _<_}
+use Prim.Native.Nat.{ℕ, _-_, _≤_}
 use native.Mathlib.Omega.{arith}
-use lib.ListN.{length, getD}
-use Rattle.outputs.specs.Atoms.{valueOf}
-use Rattle.outputs.proofs.Variables.{filledUp}
+use Rattle.facts.specs.Atoms.{valueOf}
 use Rattle.outputs.proofs.skolem.template.Statement.{statement}
 use Rattle.outputs.proofs.skolem.template.Tie as tie
 

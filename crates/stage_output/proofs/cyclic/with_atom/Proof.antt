@@ -8,27 +8,28 @@ use lib.ListN.{getD}
 use Rattle.model.specs.Lists.{numbersFrom}
 use Rattle.tables.specs.Rows.{rows}
 use Rattle.rows.specs.Making.{firstCyclic}
-use Rattle.stage_output.specs.Cyclic.{loopOf, rowWith, rowsWith, Settled}
+use Rattle.stage_output.specs.Cyclic.{cyclicOf, rowWith, rowsWith, Looked}
 use Rattle.stage_output.proofs.CyclicRows.{first-none, first-append, rowsWith-none, rowsWith-more}
 use Rattle.stage_output.proofs.cyclic.with_atom.Statement.{statement}
 use Rattle.stage_output.proofs.cyclic.with_atom.Tie as tie
 
 abbrev Inv-loop : tie.InvT-loop
-Inv-loop arity template terms n atom functions found₀ row₀ tested₀ p₀ found row tested p =
-    (p ≤ arity) × (loopOf found row ≡ firstCyclic (rows 10 n terms) (loopOf found₀ row₀) (rowsWith functions template (numbersFrom atom 1 p)))
-    × Settled (rows 10 n terms) template found row tested
+Inv-loop arity template terms n atom functions so-far₀ p₀ so-far p =
+    (p ≤ arity) × Looked n terms template (rowsWith functions template (numbersFrom atom 1 p)) so-far₀ so-far
 
 abbrev μ-loop : tie.MeasureT-loop
-μ-loop arity template terms n atom functions found₀ row₀ tested₀ p₀ found row tested p = arity - p
+μ-loop arity template terms n atom functions so-far₀ p₀ so-far p = arity - p
 
 loop-holds : tie.Need-loop-holds Inv-loop μ-loop
 loop-holds c =
-    let s = c .before .before in
+    let s = c .before in
     let a = s .args in
     let ts = rows 10 (a .n) (a .terms .now) in (
       omega arith,
-      sym (ap (firstCyclic ts (loopOf (a .before .found) (a .before .row))) (rowsWith-none (a .t3) (a .template) (a .t1)) ∙ first-none ts (loopOf (a .before .found) (a .before .row))),
-      s .pre .4,
+      record {
+        first = sym (ap (firstCyclic ts (cyclicOf (a .before .cyclic))) (rowsWith-none (a .t3) (a .template) (a .t1)) ∙ first-none ts (cyclicOf (a .before .cyclic)));
+        unchanging = s .pre .1 .unchanging;
+      },
     )
 
 add-function : tie.Need-add-function Inv-loop μ-loop
@@ -41,16 +42,18 @@ array-read-function : tie.Need-array-read-function Inv-loop μ-loop
 array-read-function c = omega arith
 
 cast-function : tie.Need-cast-function Inv-loop μ-loop
-cast-function c = omega (arith, c .before .before .before .before .pre .0 .variables (c .before .loop .p) (c .loop-test .taken))
+cast-function c = omega (arith, c .before .before .before .pre .0 .variables (c .before .loop .p) (c .loop-test .taken))
 
 mul-function-2 : tie.Need-mul-function-2 Inv-loop μ-loop
-mul-function-2 c = omega (arith, c .before .before .before .before .pre .0 .variables (c .before .loop .p) (c .loop-test .taken))
+mul-function-2 c = omega (arith, c .before .before .before .pre .0 .variables (c .before .loop .p) (c .loop-test .taken))
 
 array-read-function-2 : tie.Need-array-read-function-2 Inv-loop μ-loop
-array-read-function-2 c = omega (arith, c .before .before .before .before .pre .0 .variables (c .before .loop .p) (c .loop-test .taken))
+array-read-function-2 c = omega (arith, c .before .before .before .pre .0 .variables (c .before .loop .p) (c .loop-test .taken))
 
 with-variable-requires : tie.Need-with-variable-requires Inv-loop μ-loop
-with-variable-requires c κs = let s = c .before .before .before .before in (s .pre .1, s .pre .2, s .pre .3, c .before .loop .inv .2)
+with-variable-requires c κs =
+    let p = c .before .before .before .pre .1 in
+    record { ordered = p .ordered; few = p .few; arguments = p .arguments; unchanging = c .before .loop .inv .1 .unchanging }
 
 add-p : tie.Need-add-p Inv-loop μ-loop
 add-p c = omega arith
@@ -60,29 +63,32 @@ loop-less c = omega arith
 
 loop-again : tie.Need-loop-again Inv-loop μ-loop
 loop-again c =
-    let w = c .before .with-variable .ensures in
-    let l = c .before .before .before in
-    let a = l .before .before .before .args in
+    let w = c .with-variable .ensures in
+    let l = c .before .before in
+    let a = l .before .before .args in
     let ts = rows 10 (a .n) (a .terms .now) in
     let f = getD (a .t3) (getD (a .t1) (l .loop .p + 1) 0) 0 in
     let seen = rowsWith (a .t3) (a .template) (numbersFrom (a .t1) 1 (l .loop .p)) in (
       omega arith,
-      w .0
-          ∙ ap (λ (ls : List (List ℕ)). firstCyclic ts ls (rowWith f (a .template))) (l .loop .inv .1)
-          ∙ sym (first-append ts (loopOf (a .before .found) (a .before .row)) seen (rowWith f (a .template)))
-          ∙ ap (firstCyclic ts (loopOf (a .before .found) (a .before .row))) (sym (rowsWith-more (a .t3) (a .template) (a .t1) (l .loop .p))),
-      w .1,
+      record {
+        first = w .first
+            ∙ ap (λ (ls : List (List ℕ)). firstCyclic ts ls (rowWith f (a .template))) (l .loop .inv .1 .first)
+            ∙ sym (first-append ts (cyclicOf (a .before .cyclic)) seen (rowWith f (a .template)))
+            ∙ ap (firstCyclic ts (cyclicOf (a .before .cyclic))) (sym (rowsWith-more (a .t3) (a .template) (a .t1) (l .loop .p)));
+        unchanging = w .unchanging;
+      },
     )
 
 returns : tie.Need-returns Inv-loop μ-loop
 returns c =
     let l = c .before in
-    let a = l .before .before .before .args in
-    let e : l .loop .p ≡ a .arity = omega arith in (
-      l .loop .inv .1
-          ∙ ap (λ (k : ℕ). firstCyclic (rows 10 (a .n) (a .terms .now)) (loopOf (a .before .found) (a .before .row)) (rowsWith (a .t3) (a .template) (numbersFrom (a .t1) 1 k))) e,
-      l .loop .inv .2,
-    )
+    let a = l .before .before .args in
+    let e : l .loop .p ≡ a .arity = omega arith in
+    record {
+      first = l .loop .inv .1 .first
+          ∙ ap (λ (k : ℕ). firstCyclic (rows 10 (a .n) (a .terms .now)) (cyclicOf (a .before .cyclic)) (rowsWith (a .t3) (a .template) (numbersFrom (a .t1) 1 k))) e;
+      unchanging = l .loop .inv .1 .unchanging;
+    }
 
 pub with-atom-spec : {M : Type 1} → statement M
 with-atom-spec =

@@ -1,0 +1,3 @@
+pub mod Datalog
+pub mod Elements
+pub mod Sets

@@ -1,0 +1,4 @@
+pub mod Lists
+pub mod Parsing
+pub mod Many
+pub mod Heads

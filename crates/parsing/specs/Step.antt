@@ -1,0 +1,47 @@
+-- What the parsers of the code answer and leave in the row that they fill. Assumes nothing.
+use mathlib.Core.Path.{_≡_}
+use mathlib.Core.List.{List}
+use Prim.Native.Nat.{ℕ, _≤_}
+use lib.ListN.{length, getD, replicate}
+use Rattle.model.specs.Limits.{predicateLimit, ruleLimit}
+use Rattle.model.specs.Rules.{Atom, Rule, variablesOf}
+use Rattle.model.specs.Format.{Parsed, good, bad, andThen, many, byte, rule}
+use Rattle.form_variables.specs.Sets.{setOf}
+use Rattle.parsing.specs.declared.Step.{Step}
+use Rattle.parsing.specs.declared.Step.the-variants.{Good, Bad}
+
+-- keep gives the number that the code keeps of a value
+unfoldable pub stepOf : {A : Type 0} → (A → ℕ) → Parsed A → Step
+stepOf keep (good a i) = Good (keep a) i
+stepOf keep (bad n p) = Bad n p
+
+abbrev pub value : ℕ → ℕ
+value n = n
+
+-- nothing is kept
+abbrev pub none : {A : Type 0} → A → ℕ
+none a = 0
+
+abbrev pub atomSet : Atom → ℕ
+atomSet a = setOf (a .variables)
+
+abbrev pub atomsSet : List Atom → ℕ
+atomsSet as' = setOf (variablesOf as')
+
+-- the count of the rules and the rules, as a part of model's `ruleSet`
+unfoldable pub parsedRules : List ℕ → List ℕ → ℕ → Parsed (List Rule)
+parsedRules bs arities i = andThen (byte bs 0 ruleLimit 5 i) (λ n j. many n (rule bs arities) j)
+
+unfoldable pub zeros : ℕ → List ℕ
+zeros n = replicate n 0
+
+-- the answer of a parser, and the row that it leaves where the parse is good
+pub record Filled {A : Type 0} (keep : A → ℕ) (row : A → List ℕ) (parsed : Parsed A) (r : Step) (after : List ℕ) : Type 0 where
+  pub answer : r ≡ stepOf keep parsed
+  pub stored : (a : A) (j : ℕ) → parsed ≡ good a j → after ≡ row a
+
+-- the arities of a rule set: one to 64 (`predicateLimit`), each at most 4
+pub record Arities (arities : List ℕ) : Type 0 where
+  pub some : 1 ≤ length arities
+  pub few : length arities ≤ predicateLimit
+  pub small : (p : ℕ) → getD arities p 0 ≤ 4

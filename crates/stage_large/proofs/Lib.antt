@@ -1,0 +1,7 @@
+pub mod Bounds
+pub mod Handled
+pub mod Oversize
+pub mod Places
+pub mod Sizes
+pub mod Steps
+pub mod Triggers

@@ -1,0 +1,51 @@
+-- Triggers with more than 64 places, as the search gives them: by assignments of all variables, and the set of the body's. Assumes nothing.
+use mathlib.Core.Path.{_≡_}
+use mathlib.Core.List.{List, map, List·Memᴰ}
+use mathlib.Core.Bool.{Bool, true, false}
+use Prim.Native.Nat.{ℕ, min, _≤_, _<_}
+use lib.Dec.{ltb}
+use lib.ListN.{length, getD}
+use Rattle.model.specs.Limits.{placeLimit}
+use Rattle.model.specs.Rules.{blockable}
+use Rattle.rows.specs.Judging.{total as sum, sizeIn}
+use Rattle.rows.specs.Making.{Left, handled}
+use Rattle.tables.specs.Terms.{Ordered, total, sizeAt}
+use Rattle.triggers.specs.Match.{Body, Searchable}
+use Rattle.triggers.specs.Index.{Indexed}
+use Rattle.new_triggers.specs.Unhandled.{Apart}
+use Rattle.form.specs.Places.{rulesOf, ruleOf}
+use Rattle.form_variables.specs.Sets.{elements}
+use Rattle.stage_large.specs.Stage.{triggersOf}
+use Rattle.stage_large.specs.declared.counts.Counts.{Counts}
+use Rattle.laws.specs.Lists.{Distinct}
+
+-- the sizes of what the variables of a set stand for, together
+unfoldable pub placesOf : List ℕ → ℕ → List ℕ → ℕ
+placesOf terms set xs = total (sizeAt terms) (map (λ (v : ℕ). getD xs v 0) (elements set))
+
+unfoldable pub large : List ℕ → ℕ → List ℕ → Bool
+large terms set xs = ltb placeLimit (placesOf terms set xs)
+
+-- sizes that were found, by the terms' numbers, none above 65: 0 for a term that was not measured
+abbrev pub Measured : List ℕ → List ℕ → Type 0
+Measured terms sizes = (i : ℕ) → 0 < getD sizes i 0 → getD sizes i 0 ≡ min (sizeAt terms i) 65
+
+-- no size of the first n terms is above `most`, where 65 stands for every size from 65 on
+abbrev pub Bounding : List ℕ → ℕ → ℕ → Type 0
+Bounding terms n most = (most ≤ 65) × ((i : ℕ) → i < n → min (sizeAt terms i) 65 ≤ most)
+
+-- a stage whose facts stand once, and whose handled triggers are not too large
+pub record HandledSmall (form : List ℕ) (l : Left) : Type 0 where
+  pub earlier : l .old ≤ length (l .rows .facts)
+  pub once : Distinct (l .rows .facts)
+  pub small : (i : ℕ) → i < length (rulesOf form) → blockable (ruleOf form i) ≡ true → (m : List ℕ) → List·Memᴰ m (triggersOf l (ruleOf form i))
+      → handled l (ruleOf form i) m ≡ true → ltb placeLimit (sum (sizeIn (length (l .rows .terms)) (l .rows .terms)) m) ≡ false
+
+-- a body's triggers over a stage can be searched for large ones
+pub record Sought (b : Body) (terms facts : List ℕ) (n : Counts) (index sizes : List ℕ) : Type 0 where
+  pub searchable : Searchable b facts (n .facts) (n .terms)
+  pub ordered : Ordered (n .terms) terms
+  pub few : n .terms < 65536
+  pub indexed : Indexed facts (n .facts) index
+  pub apart : Apart b facts (n .facts) (n .old)
+  pub measured : Measured terms sizes

@@ -1,0 +1,4 @@
+pub mod TestsFit
+pub mod HandledSmall
+pub mod Tabling
+pub mod Leavable

@@ -1,4 +1,0 @@
-pub mod Large
-pub mod Pinning
-pub mod Stage
-pub mod Blockable
