@@ -1,4 +1,4 @@
--- What the reader leaves holds the well-formed rule set that the bytes give, as the functions of crate rules ask. Assumes nothing.
+-- What the reader leaves holds the well-formed rule set that the bytes give, as the functions of crate form ask. Assumes nothing.
 use mathlib.Core.Path.{_≡_, sym, subst}
 use mathlib.Core.List.{List, _++_}
 use Prim.Native.Nat.{ℕ, _≤_}
