@@ -258,15 +258,15 @@ module _ {n : ℕ} {t : List ℕ} (o : Ordered n t) (i : ℕ) (h : i < n) {ts : 
       rw (copyTerm-is o i h ts, c .held) (omega (arith, ap (λ (d : Copies). length (d .terms)) more))
 
   -- an argument has room, and a number that a cell holds
-  pub copied-room : {space : List ℕ} → Room 10 space (copyTerm n (rows 10 n t) i ts) → j < copiedArity t i
-      → Room 10 space (copyTerm n (rows 10 n t) (argumentOf t i j) (rows 10 m table))
+  pub copied-room : {space : List ℕ} → Room 12 space (copyTerm n (rows 10 n t) i ts) → j < copiedArity t i
+      → Room 12 space (copyTerm n (rows 10 n t) (argumentOf t i j) (rows 10 m table))
   copied-room r k =
       let b = copied-below k in
       let f = r .fits in
       let w = r .few in
       record { fits = omega arith; few = omega arith }
 
-  pub copied-number : {space : List ℕ} → Room 10 space (copyTerm n (rows 10 n t) i ts) → j < copiedArity t i → (m′ : ℕ) (table′ : List ℕ)
+  pub copied-number : {space : List ℕ} → Room 12 space (copyTerm n (rows 10 n t) i ts) → j < copiedArity t i → (m′ : ℕ) (table′ : List ℕ)
       → rows 10 m′ table′ ≡ copyTerm n (rows 10 n t) (argumentOf t i j) (rows 10 m table) → (1 ≤ m′) × (m′ < 65536)
   copied-number r k m′ table′ e =
       let b = copied-below k in
@@ -281,7 +281,7 @@ module _ {n : ℕ} {t : List ℕ} (o : Ordered n t) (i : ℕ) (h : i < n) {ts : 
       ∙ ap (λ (p : ℕ). upTo n t i ts p .terms ++ (padded 10 (functionOf t i ∷ copiedArity t i ∷ upTo n t i ts p .numbers) ∷ [])) e
       ∙ sym (copyTerm-is o i h ts)
 
-  pub copied-last : {space : List ℕ} → Room 10 space (copyTerm n (rows 10 n t) i ts) → j ≡ copiedArity t i → (suc m * 10 ≤ length space) × (m < 65536)
+  pub copied-last : {space : List ℕ} → Room 12 space (copyTerm n (rows 10 n t) i ts) → j ≡ copiedArity t i → (suc m * 12 ≤ length space) × (suc m < 65536)
   copied-last r e =
       let f = r .fits in
       let w = r .few in

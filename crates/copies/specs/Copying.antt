@@ -6,6 +6,7 @@ use Prim.Native.Nat.{ℕ, _-_, _<_}
 use lib.ListN.{getD, set}
 use Rattle.rows.specs.Triggers.{numbers}
 use Rattle.tables.specs.Rows.{rows}
+use Rattle.tables.specs.TermHash.{KeptTerms}
 use Rattle.form_variables.specs.Sets.{has, elements}
 use Rattle.facts.specs.Atoms.{valueOf}
 use Rattle.rows.specs.Copies.{copyTerm, copies}
@@ -21,4 +22,5 @@ numberedAt variables v names m = elim (has variables v) [ true ↦ set names v (
 -- the copies of a trigger's terms: what the table holds, and the copies' numbers by variable
 pub record Copied (source : List (List ℕ)) (variables : ℕ) (assignment : List ℕ) (table : List ℕ) (n : ℕ) (names : List ℕ) : Type 0 where
   pub held : rows 10 n table ≡ copies source (map (valueOf assignment) (elements variables)) .terms
+  pub found : KeptTerms table n
   pub each : (v : ℕ) → v < 8 → getD names v 0 ≡ numbers (elements variables) (copies source (map (valueOf assignment) (elements variables)) .numbers) v

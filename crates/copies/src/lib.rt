@@ -9,15 +9,15 @@ ghost use Rattle.rows.specs.Copies.{copyTerm, copies};
 ghost use Rattle.form_variables.specs.Sets.{has, elements};
 ghost use Rattle.tables.specs.Rows.{rows};
 ghost use Rattle.tables.specs.Terms.{Ordered};
-ghost use Rattle.facts.specs.Room.{Room};
+ghost use Rattle.facts.specs.Room.{TakesTerms, HoldsTerms};
 ghost use Rattle.facts.specs.Atoms.{valueOf};
 ghost use Rattle.copies.specs.Copying.{copiedAt, numberedAt, Copied};
 
 // Copies term `i` behind the `n` rows of a table, its arguments first, each occurrence of a constant as a row of its own. Gives how many rows
 // there are then.
 fn copy(terms: &[u16], count: usize, i: usize, table: &mut [u16], n: usize) -> usize
-    requires { ⌜ Ordered count (now terms) × (i < count) × Room 10 (now table) (copyTerm count (rows 10 count (now terms)) i (rows 10 n (now table))) ⌝ }
-    ensures { λ r. ⌜ rows 10 r (now (table .exit)) ≡ copyTerm count (rows 10 count (now (terms .entry))) i (rows 10 n (now (table .entry))) ⌝ }
+    requires { ⌜ Ordered count (now terms) × (i < count) × TakesTerms (now table) n (copyTerm count (rows 10 count (now terms)) i (rows 10 n (now table))) ⌝ }
+    ensures { λ r. ⌜ HoldsTerms (now (table .exit)) r (copyTerm count (rows 10 count (now (terms .entry))) i (rows 10 n (now (table .entry)))) ⌝ }
 {
     let arity = tables::copied_arity(terms, count, i);
     let mut row: [u16; 10] = [0; 10];
@@ -36,7 +36,7 @@ fn copy(terms: &[u16], count: usize, i: usize, table: &mut [u16], n: usize) -> u
         row[2 + j] = (m - 1) as u16;
         j += 1;
     }
-    tables::put(&mut *table, m * 10, &row[..]);
+    terms::append_term(&mut *table, m, row);
     m + 1
 }
 
@@ -57,8 +57,8 @@ fn copy_variable(
     table: &mut [u16],
     n: usize,
 ) -> Renamed
-    requires { ⌜ Ordered count (now terms) × (v < 8) × (has variables v ≡ true → i < count) × Room 10 (now table) (copiedAt (rows 10 count (now terms)) count variables v i (rows 10 n (now table))) ⌝ }
-    ensures { λ r. ⌜ (rows 10 (r .count) (now (table .exit)) ≡ copiedAt (rows 10 count (now (terms .entry))) count variables v i (rows 10 n (now (table .entry)))) × (r .numbers ≡ numberedAt variables v numbers (r .count)) ⌝ }
+    requires { ⌜ Ordered count (now terms) × (v < 8) × (has variables v ≡ true → i < count) × TakesTerms (now table) n (copiedAt (rows 10 count (now terms)) count variables v i (rows 10 n (now table))) ⌝ }
+    ensures { λ r. ⌜ HoldsTerms (now (table .exit)) (r .count) (copiedAt (rows 10 count (now (terms .entry))) count variables v i (rows 10 n (now (table .entry)))) × (r .numbers ≡ numberedAt variables v numbers (r .count)) ⌝ }
 {
     if form_variables::contains(variables, v) {
         let m = copy(terms, count, i as usize, &mut *table, n);
@@ -80,7 +80,7 @@ pub fn copy_terms(
     assignment: [u16; 8],
     table: &mut [u16],
 ) -> Renamed
-    requires { ⌜ Ordered count (now terms) × ((v : ℕ) → v < 8 → has variables v ≡ true → getD assignment v 0 < count) × Room 10 (now table) (copies (rows 10 count (now terms)) (map (valueOf assignment) (elements variables)) .terms) ⌝ }
+    requires { ⌜ Ordered count (now terms) × ((v : ℕ) → v < 8 → has variables v ≡ true → getD assignment v 0 < count) × TakesTerms (now table) 0 (copies (rows 10 count (now terms)) (map (valueOf assignment) (elements variables)) .terms) ⌝ }
     ensures { λ r. ⌜ Copied (rows 10 count (now (terms .entry))) variables assignment (now (table .exit)) (r .count) (r .numbers) ⌝ }
 {
     let mut numbers: [u16; 8] = [0; 8];

@@ -8,13 +8,13 @@ use Rattle.model.specs.Rules.{RuleSet, entries}
 use Rattle.model.specs.WellFormed.{WellFormed}
 use Rattle.model.specs.Format.{Parsed, good, bad, read}
 use Rattle.model.specs.Form.{formLength, decoded, done, refusal, Reading, reading}
-use Rattle.model.specs.Stages.{Verdict, accepted, looping, refused, stage, cyclicTerms, verdict}
+use Rattle.model.specs.Stages.{Verdict, accepted, cyclicAt, refused, stage, cyclicTerms, verdict}
 use Rattle.model.specs.Limits.{termsFront, factsFront}
 use Rattle.model.specs.Tables.{termRow, factRow, fronted, checked}
 use Rattle.dmfa.specs.declared.verdict.Verdict as declared
 use Rattle.dmfa.specs.Verdict.{meant}
 use Rattle.laws_stages.specs.Reached.{Reached}
-use Rattle.laws_stages.proofs.Verdict.{reached-facts-within, reached-terms-within, accepted-says, looping-says}
+use Rattle.laws_stages.proofs.Verdict.{reached-facts-within, reached-terms-within, accepted-says, cyclicAt-says}
 use Rattle.laws_format.proofs.RoundTrip.{reading-good, reading-bad}
 use Rattle.reader.proofs.Held.{read-holds}
 use Rattle.laws_tables.proofs.Courses.{Fronts, checked-bad}
@@ -34,9 +34,9 @@ pub record Few (j : Judged) : Type 0 where
   pub facts : length (j .rows .facts) ≤ 2048
 
 module _ (b : RuleSet) (w : WellFormed b) where
-  few-looping : (n k : ℕ) → n ≡ suc k → Reached b k → (f t : ℕ) → Few (shown b (looping n f t))
+  few-cyclicAt : (n k : ℕ) → n ≡ suc k → Reached b k → (f t : ℕ) → Few (shown b (cyclicAt n f t))
   unfolding shown
-  few-looping n k e r f t =
+  few-cyclicAt n k e r f t =
       let p : n - 1 ≡ k = omega arith in
       let h = reached-terms-within b k r in
       let g = reached-facts-within b w k r in
@@ -57,7 +57,7 @@ module _ (b : RuleSet) (w : WellFormed b) where
         terms = omega (arith, terms-count b n, reached-terms-within b n r);
         facts = omega (arith, facts-count b n, reached-facts-within b w n r);
       }
-  few-shown (looping n f t) e = let l = looping-says b w e in few-looping n (l .last) (l .next) (l .reached) f t
+  few-shown (cyclicAt n f t) e = let l = cyclicAt-says b w e in few-cyclicAt n (l .last) (l .next) (l .reached) f t
   few-shown (refused n p) e = record { terms = omega arith; facts = omega arith }
 
   judged-few : Few (judged b)

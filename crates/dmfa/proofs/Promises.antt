@@ -7,15 +7,15 @@ use lib.ListN.{take}
 use Rattle.model.specs.Term.{star}
 use Rattle.model.specs.Rules.{RuleSet, entries}
 use Rattle.model.specs.Format.{good, read}
-use Rattle.model.specs.Stages.{stage, accepted, looping, refused, verdict, cyclicTerms}
+use Rattle.model.specs.Stages.{stage, accepted, cyclicAt, refused, verdict, cyclicTerms}
 use Rattle.model.specs.Tables.{Checked, checked}
 use Rattle.model.specs.Spelled.{termAt}
 use Rattle.model.specs.Demand.{Demand3}
 use Rattle.laws_format.proofs.Bytes.{read-well-formed}
-use Rattle.laws_stages.proofs.Verdict.{looping-says}
+use Rattle.laws_stages.proofs.Verdict.{cyclicAt-says}
 use Rattle.laws_published.proofs.Dmfa.{accepted-is-dmfa, accepted-is-acyclic, cyclic-is-reached}
 use Rattle.laws_tables.proofs.Courses.{Course, short, faulty, judged, course, refused-untouched, refused-zeroed}
-use Rattle.laws_tables.proofs.Checked.{accepted-judged, looping-judged, checked-accepted-spelled, checked-cyclic-shown, checked-kept}
+use Rattle.laws_tables.proofs.Checked.{accepted-judged, cyclicAt-judged, checked-accepted-spelled, checked-cyclic-shown, checked-kept}
 use Rattle.laws_demand.proofs.OfCheck.{demand-3-of-check}
 use Rattle.dmfa.specs.Verdict.{meant}
 use Rattle.dmfa.specs.declared.verdict.Verdict.{Verdict}
@@ -60,13 +60,13 @@ module _ (bytes terms₀ facts₀ : List ℕ) (r : Verdict) (terms facts : List 
     accepts : (n f t : ℕ) → meant r ≡ accepted n f t → verdict b ≡ accepted n f t
     accepts n f t v = accepted-judged bytes terms₀ facts₀ b i n f t e (verdict-is ∙ v) .verdict
 
-    loops : (n f t : ℕ) → meant r ≡ looping n f t → verdict b ≡ looping n f t
-    loops n f t v = looping-judged bytes terms₀ facts₀ b i n f t e (verdict-is ∙ v) .verdict
+    loops : (n f t : ℕ) → meant r ≡ cyclicAt n f t → verdict b ≡ cyclicAt n f t
+    loops n f t v = cyclicAt-judged bytes terms₀ facts₀ b i n f t e (verdict-is ∙ v) .verdict
 
     -- the term behind the stage's own is the first cyclic one
-    shown-is : (n f t : ℕ) (v : meant r ≡ looping n f t) → looping-says b (read-well-formed bytes b i e) (loops n f t v) .shown ≡ termAt (λ j. star) (suc t) terms t
+    shown-is : (n f t : ℕ) (v : meant r ≡ cyclicAt n f t) → cyclicAt-says b (read-well-formed bytes b i e) (loops n f t v) .shown ≡ termAt (λ j. star) (suc t) terms t
     shown-is n f t v =
-        let l = looping-says b (read-well-formed bytes b i e) (loops n f t v) in
+        let l = cyclicAt-says b (read-well-formed bytes b i e) (loops n f t v) in
         let k : n - 1 ≡ l .last = (let h = l .next in omega arith) in
         let c : take 1 (cyclicTerms (entries b) (stage b (n - 1))) ≡ termAt (λ j. star) (suc t) (checked bytes terms₀ facts₀ .terms) t ∷ [] = checked-cyclic-shown bytes terms₀ facts₀ b i n f t e (verdict-is ∙ v) in
         let d : l .shown ∷ [] ≡ termAt (λ j. star) (suc t) (checked bytes terms₀ facts₀ .terms) t ∷ [] =

@@ -10,7 +10,7 @@ use Rattle.model.specs.Term.{Term, star, cyclic}
 use Rattle.model.specs.Rules.{RuleSet}
 use Rattle.model.specs.Format.{good, read}
 use Rattle.model.specs.Triggers.{Fact}
-use Rattle.model.specs.Stages.{accepted, looping, refused, stage}
+use Rattle.model.specs.Stages.{accepted, cyclicAt, refused, stage}
 use Rattle.model.specs.Limits.{termsFront, factsFront}
 use Rattle.model.specs.Tables.{checked, fronted}
 use Rattle.model.specs.Spelled.{termAt, spelledFacts}
@@ -46,7 +46,7 @@ pub record Shown (b : RuleSet) (n : ℕ) (u : Term) : Type 0 where
 pub record Demand2 (b : RuleSet) (r : Verdict) (terms facts : List ℕ) : Type 0 where
   pub least : (n f t : ℕ) → meant r ≡ accepted n f t → (g : Fact) → List·Memᴰ g (listed b f t terms facts) ↔ Dmfa b g
   pub acyclic : (n f t : ℕ) → meant r ≡ accepted n f t → (g : Fact) → Dmfa b g → (u : Term) → List·Memᴰ u (g .arguments) → cyclic u ≡ false
-  pub shows : (n f t : ℕ) → meant r ≡ looping n f t → Shown b n (termAt (λ j. star) (suc t) terms t)
+  pub shows : (n f t : ℕ) → meant r ≡ cyclicAt n f t → Shown b n (termAt (λ j. star) (suc t) terms t)
 
 -- all three, for every input
 pub record Promised (bytes terms₀ facts₀ : List ℕ) (r : Verdict) (terms facts : List ℕ) : Type 0 where

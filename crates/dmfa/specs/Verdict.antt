@@ -5,5 +5,5 @@ use Rattle.dmfa.specs.declared.verdict.Verdict.the-variants.{Accepted, C
 
 abbrev pub meant : Verdict → stages.Verdict
 meant (Accepted n f t) = stages.accepted n f t
-meant (Cyclic n f t) = stages.looping n f t
+meant (Cyclic n f t) = stages.cyclicAt n f t
 meant (Refused n p) = stages.refused n p

@@ -15,6 +15,7 @@ ghost use lib.ListN.{length};
 ghost use Rattle.model.specs.Limits.{factRoom, termsFront, factsFront};
 ghost use Rattle.model.specs.Tables.{checked};
 ghost use Rattle.form.specs.Places.{Held};
+ghost use Rattle.tables.specs.TermHash.{KeptTerms};
 ghost use Rattle.facts.specs.Hashed.{Kept};
 ghost use Rattle.dmfa.specs.Verdict.{meant};
 ghost use Rattle.dmfa.specs.Judging.{smallRoom, Checkable, Leaves, CheckedAs};
@@ -29,10 +30,11 @@ const TERM_WIDTH: usize = 10;
 
 const FACT_WIDTH: usize = 5;
 
-// Room for 1,100 terms; and for 8,708, all that can be made of a stage, and the 64 of an output more.
-const SMALL_ROOM: usize = 11000;
+// Room for 1,100 terms; and for 8,708, all that can be made of a stage, and the 64 of an output more. A term has ten numbers and a link, and
+// behind them stand 512 buckets.
+const SMALL_ROOM: usize = 13200;
 
-const LARGE_ROOM: usize = 87720;
+const LARGE_ROOM: usize = 105264;
 
 // Room for 2,049 facts, all that can be made of a stage; behind them a link for each, and 4,096 buckets.
 const FACTS_ROOM: usize = 16390;
@@ -48,8 +50,8 @@ pub enum Checked {
     Short,
 }
 
-// The verdict, with room for the stages' terms and for their facts, which are hashed, and the fronts of the caller's two tables. These stay as
-// they were if the room for terms was short.
+// The verdict, with room for the stages' terms and for their facts, both hashed, and the fronts of the caller's two tables. These stay as they
+// were if the room for terms was short.
 fn check_by(
     form: &[u16],
     before: &[u16],
@@ -58,7 +60,7 @@ fn check_by(
     terms: &mut [u16],
     facts: &mut [u16],
 ) -> Checked
-    requires { ⌜ Checkable (now form) (now before) (now terms) (now facts) × (termsFront ≤ length (now room)) × Kept (now hashed) 0 factRoom ⌝ }
+    requires { ⌜ Checkable (now form) (now before) (now terms) (now facts) × KeptTerms (now room) 0 × Kept (now hashed) 0 factRoom ⌝ }
     ensures { λ r. ⌜ CheckedAs (now (form .entry)) (length (now (room .entry))) (now (terms .entry)) (now (facts .entry)) r (now (terms .exit)) (now (facts .exit)) ⌝ }
 {
     let judgement = judge(form, before, &mut *room, &mut *hashed);

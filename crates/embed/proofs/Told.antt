@@ -10,7 +10,7 @@ use lib.ListN.{length}
 use borrow.Author.Tests.{leb-true, leb-false}
 use Rattle.model.specs.Rules.{RuleSet}
 use Rattle.model.specs.Format.{Parsed, good, bad, read}
-use Rattle.model.specs.Stages.{Verdict, accepted, looping, refused}
+use Rattle.model.specs.Stages.{Verdict, accepted, cyclicAt, refused}
 use Rattle.model.specs.Form.{Transfer, done, refusal, formLength, reading, Writing, writing}
 use Rattle.model.specs.Limits.{termsFront, factsFront}
 use Rattle.laws.proofs.Bools.{case}
@@ -21,13 +21,13 @@ use Rattle.embed.specs.Numbers.{verdictNumber, verdictValues, transferNu
 
 pub verdict-told : (v w : Verdict) → verdictNumber v ≡ verdictNumber w → verdictValues v ≡ verdictValues w → v ≡ w
 verdict-told (accepted n f t) (accepted n′ f′ t′) e h = cc
-verdict-told (accepted n f t) (looping n′ f′ t′) e h = absurd (omega arith)
+verdict-told (accepted n f t) (cyclicAt n′ f′ t′) e h = absurd (omega arith)
 verdict-told (accepted n f t) (refused n′ p′) e h = absurd (omega arith)
-verdict-told (looping n f t) (accepted n′ f′ t′) e h = absurd (omega arith)
-verdict-told (looping n f t) (looping n′ f′ t′) e h = cc
-verdict-told (looping n f t) (refused n′ p′) e h = absurd (omega arith)
+verdict-told (cyclicAt n f t) (accepted n′ f′ t′) e h = absurd (omega arith)
+verdict-told (cyclicAt n f t) (cyclicAt n′ f′ t′) e h = cc
+verdict-told (cyclicAt n f t) (refused n′ p′) e h = absurd (omega arith)
 verdict-told (refused n p) (accepted n′ f′ t′) e h = absurd (omega arith)
-verdict-told (refused n p) (looping n′ f′ t′) e h = absurd (omega arith)
+verdict-told (refused n p) (cyclicAt n′ f′ t′) e h = absurd (omega arith)
 verdict-told (refused n p) (refused n′ p′) e h = cc
 
 -- a refusal, if it is one, has a number that is not 0

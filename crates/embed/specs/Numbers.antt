@@ -1,7 +1,7 @@
 -- By which numbers an answer crosses to C, and all that a call leaves behind (bindings/c/rulfjen.h). Assumes nothing.
 use mathlib.Core.List.{List, [], _∷_}
 use Prim.Native.Nat.{ℕ}
-use Rattle.model.specs.Stages.{Verdict, accepted, looping, refused}
+use Rattle.model.specs.Stages.{Verdict, accepted, cyclicAt, refused}
 use Rattle.model.specs.Tables.{Checked}
 use Rattle.model.specs.Form.{Transfer, done, refusal, Reading, Writing}
 use Rattle.report.specs.Printing.{Printing}
@@ -9,13 +9,13 @@ use Rattle.report.specs.Printing.{Printing}
 -- the number that is returned
 abbrev pub verdictNumber : Verdict → ℕ
 verdictNumber (accepted n f t) = 0
-verdictNumber (looping n f t) = 1
+verdictNumber (cyclicAt n f t) = 1
 verdictNumber (refused n p) = 2
 
 -- the three places of `answer`
 abbrev pub verdictValues : Verdict → List ℕ
 verdictValues (accepted n f t) = n ∷ f ∷ t ∷ []
-verdictValues (looping n f t) = n ∷ f ∷ t ∷ []
+verdictValues (cyclicAt n f t) = n ∷ f ∷ t ∷ []
 verdictValues (refused n p) = n ∷ p ∷ 0 ∷ []
 
 -- the number that is returned: 0, or the refusal's

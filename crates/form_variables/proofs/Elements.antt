@@ -1,12 +1,11 @@
 -- Sets of variables by their elements: a set is known by them, their count is its count of ones, and the rank of an element is its index.
 -- Assumes nothing.
-use mathlib.Core.Path.{_≡_, refl, sym, ap, ap₂, _∙_, subst}
+use mathlib.Core.Path.{_≡_, refl, sym, ap, ap₂, _∙_}
 use mathlib.Core.Bool.{Bool, true, false, _&&_, _||_, not}
 use mathlib.Core.Logic.{_⊎_, inl, inr}
 use mathlib.Core.List.{List, [], _∷_, List·Memᴰ, List·Memᴰ·head, List·Memᴰ·tail}
 use Prim.Native.Nat.{ℕ, zero, suc, _+_, _-_, _/_, _%_, _^_, _≤_, _<_}
 use native.Mathlib.Nat.{pow-suc}
-use native.Mathlib.Decide.{decLt}
 use native.Mathlib.Omega.{arith}
 use lib.Dec.{eqb}
 use native.Mathlib.Numerals.{add-one}
@@ -15,15 +14,15 @@ use lib.Seq.{take-suc, take-all}
 use lib.Bits.{bitOr, bitAnd, or-lt, and-le-l, mask-lt}
 use lib.Pow.{pow-lt, pow-pos}
 use lib.Count.{ones, onesIn, ones-step}
-use borrow.Author.Tests.{not-false, eq-eqb, ne-eqb}
+use borrow.Author.Tests.{eq-eqb, ne-eqb}
 use Rattle.model.specs.Lists.{any, keep, collect, index, member}
-use Rattle.model.specs.Rules.{Atom, Rule, names, variablesOf, inBody, universal, frontier, existential, detached}
+use Rattle.model.specs.Rules.{Atom, Rule, names, variablesOf, inBody, universal, frontier, existential}
 use Rattle.laws.proofs.Bools.{case, not-both, is-false}
-use Rattle.laws.proofs.Lists.{any-mem, any-false, keep-yes, keep-no, mem-keep, keep-mem, member-mem, mem-member, getD-mem, keep-agree, any-append}
+use Rattle.laws.proofs.Lists.{keep-yes, keep-no, mem-keep, keep-mem, member-mem, mem-member, keep-agree, any-append}
 use Rattle.laws.specs.Lists.{rising}
-use Rattle.laws.proofs.Rules.{mem-names, variablesOf-mem, mem-universal, mem-frontier, names-mem}
-use Rattle.model.specs.WellFormed.{WellFormedAtoms, WellFormedRule}
-use Rattle.form_variables.specs.Sets.{setOf, has, elements, LastOf}
+use Rattle.laws.proofs.Rules.{mem-names, variablesOf-mem, names-mem}
+use Rattle.model.specs.WellFormed.{WellFormedAtoms}
+use Rattle.form_variables.specs.Sets.{setOf, has, elements}
 use Rattle.form.specs.Places.{atomPlace, GroupAt, atomOf, groupOf}
 use Rattle.form.proofs.Places.{noAtom, atom-read}
 use Rattle.form.proofs.Rows.{Turn, next-turn}
@@ -245,46 +244,6 @@ gathering-atom r {k = k} f h e x =
     let u = f .turn in
     gathering-more f h noAtom (atom-read r k (omega arith) e (λ (a : Atom). setOf (a .variables)) x)
 
--- the last element of a set, from above
-
-pub none-above : (vs : List ℕ) (v : ℕ) → ((u : ℕ) → v < u → u < 8 → has (setOf vs) u ≡ false) → ((u : ℕ) → List·Memᴰ u vs → u < 8) → (u : ℕ) → List·Memᴰ u vs → u ≤ v
-none-above vs v h k u m = go (decLt v u)
-  where
-    go : Dec (v < u) → u ≤ v
-    go (no n) = omega arith
-    go (yes l) = not-both (has (setOf vs) u) (has-setOf vs u ∙ mem-member m) (h u l (k u m))
-
-pub last-found : (vs : List ℕ) (v : ℕ) → ((u : ℕ) → v < u → u < 8 → has (setOf vs) u ≡ false) → ((u : ℕ) → List·Memᴰ u vs → u < 8) → has (setOf vs) v ≡ true
-    → LastOf vs v
-last-found vs v h k t = record { present = member-mem v vs (sym (has-setOf vs v) ∙ t); greatest = none-above vs v h k }
-
-pub last-left : (vs : List ℕ) → ((u : ℕ) → 0 < u → u < 8 → has (setOf vs) u ≡ false) → ((u : ℕ) → List·Memᴰ u vs → u < 8) → (w : ℕ) → List·Memᴰ w vs → LastOf vs 0
-last-left vs h k w m =
-    let g = none-above vs 0 h k in
-    let l = g w m in
-    let e : w ≡ 0 = omega arith in
-    record { present = subst (λ (u : ℕ). List·Memᴰ u vs) e m; greatest = g }
-
 pub frontier-range : (r : Rule) (v : ℕ) → List·Memᴰ v (frontier r) → v < 8
 unfolding frontier
 frontier-range r v m = let h = names-mem (keep-mem (λ (v : ℕ). inBody r v && any (λ (d : List Atom). member v (variablesOf d)) (r .head)) names m .0) in omega arith
-
--- a well-formed rule has a frontier
-pub frontier-some : (arities : List ℕ) (r : Rule) → WellFormedRule arities r → (v : ℕ) × List·Memᴰ v (frontier r)
-unfolding detached
-frontier-some arities r w =
-    let d : List Atom = getD (r .head) 0 [] in
-    let m : List·Memᴰ d (r .head) = getD-mem (r .head) 0 [] (w .some) in
-    let f : detached r d ≡ false = any-false (detached r) (w .attached) m in
-    let (v, k, t) = any-mem (inBody r) (variablesOf d) (not-false (any (inBody r) (variablesOf d)) f) in
-    let (a, i, j) = variablesOf-mem d k in
-    let l = w .each d m .each a i .range v j in
-    (v, mem-frontier r (mem-universal r l t) m k)
-
--- none from v on, and so none above one lower
-pub from-one-lower : (x v : ℕ) → ((u : ℕ) → v < u → u < 8 → has x u ≡ false) → has x v ≡ false → (u : ℕ) → v ≤ u → u < 8 → has x u ≡ false
-from-one-lower x v h f u l k = go (decLt v u)
-  where
-    go : Dec (v < u) → has x u ≡ false
-    go (yes a) = h u a k
-    go (no n) = let e : u ≡ v = omega arith in ap (has x) e ∙ f

@@ -1,7 +1,7 @@
 -- Sets of variables as numbers: variable v is the binary digit 2 ^ v. Assumes nothing.
-use mathlib.Core.List.{List, [], _∷_, List·Memᴰ}
+use mathlib.Core.List.{List, [], _∷_}
 use mathlib.Core.Bool.{Bool}
-use Prim.Native.Nat.{ℕ, zero, suc, _^_, _/_, _%_, _≤_}
+use Prim.Native.Nat.{ℕ, zero, suc, _^_, _/_, _%_}
 use lib.Bits.{bitOr}
 use lib.Dec.{eqb}
 use Rattle.model.specs.Lists.{keep}
@@ -19,8 +19,3 @@ has set (suc v) = has (set / 2) v
 -- the variables of the set, in rising order
 unfoldable pub elements : ℕ → List ℕ
 elements set = keep (has set) names
-
--- v is the greatest of these variables
-pub record LastOf (vs : List ℕ) (v : ℕ) : Type 0 where
-  pub present : List·Memᴰ v vs
-  pub greatest : (u : ℕ) → List·Memᴰ u vs → u ≤ v

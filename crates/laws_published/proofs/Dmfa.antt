@@ -12,7 +12,7 @@ use Rattle.model.specs.Rules.{RuleSet, Entry, entries, universal, blockable}
 use Rattle.model.specs.WellFormed.{WellFormed}
 use Rattle.model.specs.Triggers.{Fact, assign, instantiate}
 use Rattle.model.specs.Blocking.{blocked}
-use Rattle.model.specs.Stages.{Stage, triggersIn, stage, cyclicTerms, tooMany, accepted, looping, refused, verdict}
+use Rattle.model.specs.Stages.{Stage, triggersIn, stage, cyclicTerms, tooMany, accepted, cyclicAt, refused, verdict}
 use Rattle.model.specs.Published.{Substitution, Blocked, Dmfa, start, step}
 use Rattle.laws.proofs.Bools.{case, not-both, is-false}
 use Rattle.laws.proofs.Facts.{termsOf-mem}
@@ -21,7 +21,7 @@ use Rattle.laws.proofs.Prefixes.{prefix-mem}
 use Rattle.laws_stages.specs.Reached.{Reached}
 use Rattle.laws_stages.proofs.Outputs.{Fires, outputs-mem, mem-outputs, cyclicTerms-mem, outputs-acyclic, test-sets-within}
 use Rattle.laws_stages.proofs.Growth.{stage-zero-facts, stage-zero-terms, outputsOf, facts-from, facts-grow, outputs-added, arguments-in-terms, Named, terms-are-named}
-use Rattle.laws_stages.proofs.Verdict.{Looping, Cause, large, many, facts, terms, accepted-says, looping-says, refused-says, reached-before, accepted-closed}
+use Rattle.laws_stages.proofs.Verdict.{CyclicAt, Cause, large, many, facts, terms, accepted-says, cyclicAt-says, refused-says, reached-before, accepted-closed}
 use Rattle.laws_stages.proofs.Order.{Proper, proper-star, proper-skolem, terms-proper}
 use Rattle.laws_published.proofs.Closure.{loaded-trigger}
 use Rattle.laws_published.proofs.Blocked.{blocked-sound, blocked-complete}
@@ -157,8 +157,8 @@ module _ (b : RuleSet) (wf : WellFormed b) where
   pub accepted-is-acyclic : {n f t : ℕ} → verdict b ≡ accepted n f t → Acyclic b
   accepted-is-acyclic {n} h g k u m = reached-acyclic b n (accepted-says b wf h .reached) u (arguments-in-terms b n (accepted-is-dmfa h g .1 k) m)
 
-  pub looping-witness : {n f t : ℕ} (l : Looping b n f t) → Witness b n (l .shown)
-  looping-witness {n} l =
+  pub cyclicAt-witness : {n f t : ℕ} (l : CyclicAt b n f t) → Witness b n (l .shown)
+  cyclicAt-witness {n} l =
       let k = l .last in
       let (c, (g, i, m)) = cyclicTerms-mem (entries b) (stage b k) {t = l .shown} (rw (l .found) (List·Memᴰ·head refl)) in
       subst (λ (x : ℕ). Witness b x (l .shown)) (sym (l .next))
@@ -172,12 +172,12 @@ module _ (b : RuleSet) (wf : WellFormed b) where
       })
 
   -- the term shown is a cyclic one of the DMFA set, and no earlier stage holds one
-  pub cyclic-is-reached : {n f t : ℕ} (h : verdict b ≡ looping n f t) → Witness b n (looping-says b wf h .shown)
-  cyclic-is-reached h = looping-witness (looping-says b wf h)
+  pub cyclic-is-reached : {n f t : ℕ} (h : verdict b ≡ cyclicAt n f t) → Witness b n (cyclicAt-says b wf h .shown)
+  cyclic-is-reached h = cyclicAt-witness (cyclicAt-says b wf h)
 
-  pub looping-is-cyclic : {n f t : ℕ} → verdict b ≡ looping n f t → Acyclic b → ⊥
-  looping-is-cyclic h a =
-      let u = looping-says b wf h .shown in
+  pub cyclicAt-is-cyclic : {n f t : ℕ} → verdict b ≡ cyclicAt n f t → Acyclic b → ⊥
+  cyclicAt-is-cyclic h a =
+      let u = cyclicAt-says b wf h .shown in
       let w = cyclic-is-reached h in
       not-both (cyclic u) (w .loops) (a (w .fact) (w .within (w .fact) (w .known)) u (w .argument))
 

@@ -9,7 +9,7 @@ use Rattle.model.specs.Term.{Term, star}
 use Rattle.model.specs.Rules.{RuleSet, entries}
 use Rattle.model.specs.WellFormed.{WellFormed}
 use Rattle.model.specs.Format.{good, read}
-use Rattle.model.specs.Stages.{stage, Verdict, accepted, looping, refused, verdict, cyclicTerms}
+use Rattle.model.specs.Stages.{stage, Verdict, accepted, cyclicAt, refused, verdict, cyclicTerms}
 use Rattle.model.specs.Limits.{termsFront, factsFront}
 use Rattle.model.specs.Tables.{Checked, checked, left}
 use Rattle.model.specs.Spelled.{termAt}
@@ -17,7 +17,7 @@ use Rattle.laws_format.proofs.Bytes.{read-well-formed}
 use Rattle.laws_tables.proofs.Rows.{length-fronted, drop-fronted, fronted-within}
 use Rattle.laws_tables.proofs.Courses.{Fronts, Course, short, faulty, judged, course, checked-verdict, left-refused}
 use Rattle.laws_tables.proofs.Fronts.{terms-beyond, facts-beyond, terms-length, facts-length, terms-small, facts-small}
-use Rattle.laws_tables.proofs.Spelled.{Held, accepted-held, looping-held, Spells, accepted-spelled, cyclic-spelled, cyclic-shown}
+use Rattle.laws_tables.proofs.Spelled.{Held, accepted-held, cyclicAt-held, Spells, accepted-spelled, cyclic-spelled, cyclic-shown}
 
 -- an answer that is no refusal is a verdict, and its tables are that verdict's
 pub record Judged (bytes terms₀ facts₀ : List ℕ) (b : RuleSet) (v : Verdict) : Type 0 where
@@ -42,10 +42,10 @@ pub accepted-judged : (bytes terms₀ facts₀ : List ℕ) (b : RuleSet) (i n f 
 accepted-judged bytes terms₀ facts₀ b i n f t r e =
     answer-judged bytes terms₀ facts₀ b i (accepted n f t) r (λ m p q. let z : _≡_ {A = ℕ} 0 1 = cc in omega arith) e
 
-pub looping-judged : (bytes terms₀ facts₀ : List ℕ) (b : RuleSet) (i n f t : ℕ) → read bytes ≡ good b i → checked bytes terms₀ facts₀ .verdict ≡ looping n f t
-    → Judged bytes terms₀ facts₀ b (looping n f t)
-looping-judged bytes terms₀ facts₀ b i n f t r e =
-    answer-judged bytes terms₀ facts₀ b i (looping n f t) r (λ m p q. let z : _≡_ {A = ℕ} 0 1 = cc in omega arith) e
+pub cyclicAt-judged : (bytes terms₀ facts₀ : List ℕ) (b : RuleSet) (i n f t : ℕ) → read bytes ≡ good b i → checked bytes terms₀ facts₀ .verdict ≡ cyclicAt n f t
+    → Judged bytes terms₀ facts₀ b (cyclicAt n f t)
+cyclicAt-judged bytes terms₀ facts₀ b i n f t r e =
+    answer-judged bytes terms₀ facts₀ b i (cyclicAt n f t) r (λ m p q. let z : _≡_ {A = ℕ} 0 1 = cc in omega arith) e
 
 -- what the tables spell out
 
@@ -56,15 +56,15 @@ checked-accepted-spelled bytes terms₀ facts₀ b i n f t r e =
     subst (λ (c : Checked). Spells (b .arities) (stage b n) f t c) (sym (h .tables)) (accepted-spelled b (read-well-formed bytes b i r) (h .verdict) terms₀ facts₀)
 
 pub checked-cyclic-spelled : (bytes terms₀ facts₀ : List ℕ) (b : RuleSet) (i n f t : ℕ) → read bytes ≡ good b i
-    → checked bytes terms₀ facts₀ .verdict ≡ looping n f t → Spells (b .arities) (stage b (n - 1)) f t (checked bytes terms₀ facts₀)
+    → checked bytes terms₀ facts₀ .verdict ≡ cyclicAt n f t → Spells (b .arities) (stage b (n - 1)) f t (checked bytes terms₀ facts₀)
 checked-cyclic-spelled bytes terms₀ facts₀ b i n f t r e =
-    let h = looping-judged bytes terms₀ facts₀ b i n f t r e in
+    let h = cyclicAt-judged bytes terms₀ facts₀ b i n f t r e in
     subst (λ (c : Checked). Spells (b .arities) (stage b (n - 1)) f t c) (sym (h .tables)) (cyclic-spelled b (read-well-formed bytes b i r) (h .verdict) terms₀ facts₀)
 
-pub checked-cyclic-shown : (bytes terms₀ facts₀ : List ℕ) (b : RuleSet) (i n f t : ℕ) → read bytes ≡ good b i → checked bytes terms₀ facts₀ .verdict ≡ looping n f t
+pub checked-cyclic-shown : (bytes terms₀ facts₀ : List ℕ) (b : RuleSet) (i n f t : ℕ) → read bytes ≡ good b i → checked bytes terms₀ facts₀ .verdict ≡ cyclicAt n f t
     → take 1 (cyclicTerms (entries b) (stage b (n - 1))) ≡ termAt (λ j. star) (suc t) (checked bytes terms₀ facts₀ .terms) t ∷ []
 checked-cyclic-shown bytes terms₀ facts₀ b i n f t r e =
-    let h = looping-judged bytes terms₀ facts₀ b i n f t r e in
+    let h = cyclicAt-judged bytes terms₀ facts₀ b i n f t r e in
     subst (λ (c : Checked). take 1 (cyclicTerms (entries b) (stage b (n - 1))) ≡ termAt (λ j. star) (suc t) (c .terms) t ∷ []) (sym (h .tables))
     (cyclic-shown b (read-well-formed bytes b i r) (h .verdict) terms₀ facts₀)
 
@@ -122,13 +122,13 @@ refused-bounded b n p terms₀ facts₀ w k =
 module _ (b : RuleSet) (w : WellFormed b) (terms₀ facts₀ : List ℕ) where
   pub left-kept : Fronts terms₀ facts₀ → (v : Verdict) → verdict b ≡ v → Kept terms₀ facts₀ (left b v terms₀ facts₀)
   left-kept l (accepted n f t) e = held-kept (accepted-held b w e) terms₀ facts₀ l
-  left-kept l (looping n f t) e = held-kept (looping-held b w e) terms₀ facts₀ l
+  left-kept l (cyclicAt n f t) e = held-kept (cyclicAt-held b w e) terms₀ facts₀ l
   left-kept l (refused n p) e = refused-kept b n p terms₀ facts₀ l
 
   pub left-bounded : (c : ℕ) → 2048 ≤ c → Bounded c terms₀ facts₀ → (v : Verdict) → verdict b ≡ v
       → Bounded c (left b v terms₀ facts₀ .terms) (left b v terms₀ facts₀ .facts)
   left-bounded c l k (accepted n f t) e = held-bounded (accepted-held b w e) terms₀ facts₀ c l k
-  left-bounded c l k (looping n f t) e = held-bounded (looping-held b w e) terms₀ facts₀ c l k
+  left-bounded c l k (cyclicAt n f t) e = held-bounded (cyclicAt-held b w e) terms₀ facts₀ c l k
   left-bounded c l k (refused n p) e = refused-bounded b n p terms₀ facts₀ c k
 
 -- for every input: beyond the fronts nothing changes, and no length

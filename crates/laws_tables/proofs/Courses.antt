@@ -11,7 +11,7 @@ use lib.ListN.{length}
 use borrow.Author.Tests.{leb-true, le-leb}
 use Rattle.model.specs.Rules.{RuleSet}
 use Rattle.model.specs.Format.{Parsed, good, bad, read}
-use Rattle.model.specs.Stages.{Verdict, accepted, looping, refused, verdict}
+use Rattle.model.specs.Stages.{Verdict, accepted, cyclicAt, refused, verdict}
 use Rattle.model.specs.Limits.{termsFront, factsFront}
 use Rattle.model.specs.Tables.{Checked, checked, left, recorded, fronted}
 use Rattle.laws.proofs.Bools.{case, and-true, true-and, is-false}
@@ -97,7 +97,7 @@ course bytes terms₀ facts₀ = go (case (longEnough terms₀ facts₀))
 pub left-verdict : (b : RuleSet) (v : Verdict) (terms₀ facts₀ : List ℕ) → left b v terms₀ facts₀ .verdict ≡ v
 unfolding left recorded
 left-verdict b (accepted n f t) terms₀ facts₀ = refl
-left-verdict b (looping n f t) terms₀ facts₀ = refl
+left-verdict b (cyclicAt n f t) terms₀ facts₀ = refl
 left-verdict b (refused n p) terms₀ facts₀ = refl
 
 -- the verdict of a rule set that was read is the answer

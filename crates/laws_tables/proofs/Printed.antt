@@ -8,17 +8,17 @@ use Rattle.model.specs.Term.{Term}
 use Rattle.model.specs.Rules.{RuleSet}
 use Rattle.model.specs.WellFormed.{WellFormed}
 use Rattle.model.specs.Format.{good, read}
-use Rattle.model.specs.Stages.{Verdict, accepted, looping, refused, stage, verdict}
+use Rattle.model.specs.Stages.{Verdict, accepted, cyclicAt, refused, stage, verdict}
 use Rattle.model.specs.Limits.{termsFront, factsFront}
 use Rattle.model.specs.Tables.{Checked, checked, left}
 use Rattle.model.specs.Text.{termNumbers, text, declared, textOf, printed}
 use Rattle.laws_format.proofs.Bytes.{read-well-formed}
-use Rattle.laws_stages.proofs.Verdict.{accepted-says, looping-says, reached-bounded}
+use Rattle.laws_stages.proofs.Verdict.{accepted-says, cyclicAt-says, reached-bounded}
 use Rattle.laws_tables.proofs.Refusals.{Excessive, verdict-excessive}
 use Rattle.laws_tables.proofs.Courses.{Course, short, faulty, judged, course, left-verdict}
 use Rattle.laws_tables.proofs.Lines.{Ascii}
-use Rattle.laws_tables.proofs.Text.{Shown, TermLine, textOf-ascii, length-accepted, length-looping, length-refused}
-use Rattle.laws_tables.proofs.Spelled.{Held, accepted-held, looping-held}
+use Rattle.laws_tables.proofs.Text.{Shown, TermLine, textOf-ascii, length-accepted, length-cyclicAt, length-refused}
+use Rattle.laws_tables.proofs.Spelled.{Held, accepted-held, cyclicAt-held}
 use Rattle.laws_tables.proofs.Shown.{term-shown, recorded-shown}
 
 -- the arities of a rule set that was read
@@ -43,10 +43,10 @@ length-left b w terms₀ facts₀ (accepted n f t) e x =
     let k = reached-bounded b w n (accepted-says b w e .reached) in
     let l = length-accepted {n = n} (omega arith) (held-shown (accepted-held b w e) terms₀ facts₀) in
     omega arith
-length-left b w terms₀ facts₀ (looping n f t) e x =
-    let j = looping-says b w e .next in
-    let k = reached-bounded b w (looping-says b w e .last) (looping-says b w e .reached) in
-    length-looping {n = n} (omega arith) (held-shown (looping-held b w e) terms₀ facts₀) (held-more (looping-held b w e) terms₀ facts₀)
+length-left b w terms₀ facts₀ (cyclicAt n f t) e x =
+    let j = cyclicAt-says b w e .next in
+    let k = reached-bounded b w (cyclicAt-says b w e .last) (cyclicAt-says b w e .reached) in
+    length-cyclicAt {n = n} (omega arith) (held-shown (cyclicAt-held b w e) terms₀ facts₀) (held-more (cyclicAt-held b w e) terms₀ facts₀)
 length-left b w terms₀ facts₀ (refused n p) e x =
     let l = length-refused (b .arities) n p (left b (refused n p) terms₀ facts₀ .terms) (left b (refused n p) terms₀ facts₀ .facts) (omega arith) in
     omega arith

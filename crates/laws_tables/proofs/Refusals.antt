@@ -9,7 +9,7 @@ use Rattle.model.specs.Lists.{any}
 use Rattle.model.specs.Term.{Term}
 use Rattle.model.specs.Rules.{Rule, RuleSet, Entry, entries, repeated, detached}
 use Rattle.model.specs.Format.{Parsed, good, bad, andThen, byte, many, variable, atom, atoms, sound, rule, ruleSet, stated, read}
-use Rattle.model.specs.Stages.{Stage, stage, Verdict, accepted, looping, refused, judge, verdict, tooLarge, tooMany, cyclicTerms, grown, outputs}
+use Rattle.model.specs.Stages.{Stage, stage, Verdict, accepted, cyclicAt, refused, judge, verdict, tooLarge, tooMany, cyclicTerms, grown, outputs}
 
 -- a refusal, if it is one, from 2 to 10
 abbrev pub Faulty : {A : Type 0} → Parsed A → Type 0
@@ -78,7 +78,7 @@ read-faulty bs = either (leb 4 (length bs) && eqb (stated bs + 4) (length bs)) _
 -- a refusal, if it is one, from 11 to 14
 abbrev pub Excessive : Verdict → Type 0
 Excessive (accepted n f t) = Unit {0}
-Excessive (looping n f t) = Unit {0}
+Excessive (cyclicAt n f t) = Unit {0}
 Excessive (refused n p) = (11 ≤ n) × (n ≤ 14)
 
 if-excessive : (b : Bool) (x y : Verdict) → Excessive x → Excessive y → Excessive (elim b [ true ↦ x | false ↦ y ])

@@ -9,12 +9,12 @@ use lib.Seq.{getD-append-seam}
 use Rattle.model.specs.Term.{Term, star}
 use Rattle.model.specs.Rules.{RuleSet, entries}
 use Rattle.model.specs.WellFormed.{WellFormed}
-use Rattle.model.specs.Stages.{Stage, stage, Verdict, accepted, looping, verdict, cyclicTerms}
+use Rattle.model.specs.Stages.{Stage, stage, Verdict, accepted, cyclicAt, verdict, cyclicTerms}
 use Rattle.model.specs.Tables.{Checked, left, recorded}
 use Rattle.model.specs.Spelled.{termAt, spelledTerms, spelledFacts}
 use Rattle.laws_stages.proofs.Outputs.{cyclicTerms-mem}
 use Rattle.laws_stages.proofs.Order.{outputs-terms}
-use Rattle.laws_stages.proofs.Verdict.{Looping, accepted-says, looping-says}
+use Rattle.laws_stages.proofs.Verdict.{CyclicAt, accepted-says, cyclicAt-says}
 use Rattle.laws_tables.proofs.Recorded.{Recorded, terms-spelled, facts-spelled, term-spelled}
 use Rattle.laws_tables.proofs.Fronts.{Within}
 use Rattle.laws_tables.proofs.Stages.{Next, stage-recorded, stage-within}
@@ -47,29 +47,29 @@ shown-next b w n t ts e u m =
     let (f, k, i) = q in
     subst (λ (x : Term). Next (entries b) (stage b n .terms) x) (sym (List·Memᴰ·eq-of-singleton m)) (outputs-terms b w n k i)
 
-left-looping : (b : RuleSet) (n k f t : ℕ) (u : Term) (us : List Term) → n - 1 ≡ k → cyclicTerms (entries b) (stage b k) ≡ u ∷ us → (terms₀ facts₀ : List ℕ)
-    → left b (looping n f t) terms₀ facts₀ ≡ recorded (looping n f t) (stage b k) (u ∷ []) terms₀ facts₀
+left-cyclicAt : (b : RuleSet) (n k f t : ℕ) (u : Term) (us : List Term) → n - 1 ≡ k → cyclicTerms (entries b) (stage b k) ≡ u ∷ us → (terms₀ facts₀ : List ℕ)
+    → left b (cyclicAt n f t) terms₀ facts₀ ≡ recorded (cyclicAt n f t) (stage b k) (u ∷ []) terms₀ facts₀
 unfolding left
-left-looping b n k f t u us e q terms₀ facts₀ =
-    ap (λ (j : ℕ). recorded (looping n f t) (stage b j) (take 1 (cyclicTerms (entries b) (stage b j))) terms₀ facts₀) e
-    ∙ ap (λ (xs : List Term). recorded (looping n f t) (stage b k) (take 1 xs) terms₀ facts₀) q
+left-cyclicAt b n k f t u us e q terms₀ facts₀ =
+    ap (λ (j : ℕ). recorded (cyclicAt n f t) (stage b j) (take 1 (cyclicTerms (entries b) (stage b j))) terms₀ facts₀) e
+    ∙ ap (λ (xs : List Term). recorded (cyclicAt n f t) (stage b k) (take 1 xs) terms₀ facts₀) q
 
-pub looping-held : (b : RuleSet) (w : WellFormed b) {n f t : ℕ} (e : verdict b ≡ looping n f t)
-    → Held b (looping n f t) (n - 1) f t (looping-says b w e .shown ∷ [])
-looping-held b w {n} {f} {t} e = go (looping-says b w e)
+pub cyclicAt-held : (b : RuleSet) (w : WellFormed b) {n f t : ℕ} (e : verdict b ≡ cyclicAt n f t)
+    → Held b (cyclicAt n f t) (n - 1) f t (cyclicAt-says b w e .shown ∷ [])
+cyclicAt-held b w {n} {f} {t} e = go (cyclicAt-says b w e)
   where
-    go : (h : Looping b n f t) → Held b (looping n f t) (n - 1) f t (h .shown ∷ [])
+    go : (h : CyclicAt b n f t) → Held b (cyclicAt n f t) (n - 1) f t (h .shown ∷ [])
     go h =
         let q = h .next in
         let p : n - 1 ≡ h .last = omega arith in
         let next = shown-next b w (h .last) (h .shown) (h .others) (h .found) in
-        subst (λ (k : ℕ). Held b (looping n f t) k f t (h .shown ∷ [])) (sym p)
+        subst (λ (k : ℕ). Held b (cyclicAt n f t) k f t (h .shown ∷ [])) (sym p)
         (record {
           records = stage-recorded b w (h .last) (h .shown ∷ []) next;
           within = stage-within b w (h .last) (h .shown ∷ []) next (h .reached) (omega arith);
           facts = h .facts;
           terms = h .terms;
-          tables = left-looping b n (h .last) f t (h .shown) (h .others) p (h .found);
+          tables = left-cyclicAt b n (h .last) f t (h .shown) (h .others) p (h .found);
         })
 
 -- the tables spell out a stage
@@ -101,20 +101,20 @@ pub accepted-spelled : (b : RuleSet) → WellFormed b → {n f t : ℕ} → verd
     → Spells (b .arities) (stage b n) f t (left b (accepted n f t) terms₀ facts₀)
 accepted-spelled b w e terms₀ facts₀ = held-spelled (accepted-held b w e) terms₀ facts₀
 
-pub cyclic-spelled : (b : RuleSet) → WellFormed b → {n f t : ℕ} → verdict b ≡ looping n f t → (terms₀ facts₀ : List ℕ)
-    → Spells (b .arities) (stage b (n - 1)) f t (left b (looping n f t) terms₀ facts₀)
-cyclic-spelled b w e terms₀ facts₀ = held-spelled (looping-held b w e) terms₀ facts₀
+pub cyclic-spelled : (b : RuleSet) → WellFormed b → {n f t : ℕ} → verdict b ≡ cyclicAt n f t → (terms₀ facts₀ : List ℕ)
+    → Spells (b .arities) (stage b (n - 1)) f t (left b (cyclicAt n f t) terms₀ facts₀)
+cyclic-spelled b w e terms₀ facts₀ = held-spelled (cyclicAt-held b w e) terms₀ facts₀
 
 -- the record after the stage's own is the first cyclic term of the next stage
-pub cyclic-shown : (b : RuleSet) → WellFormed b → {n f t : ℕ} → verdict b ≡ looping n f t → (terms₀ facts₀ : List ℕ)
-    → take 1 (cyclicTerms (entries b) (stage b (n - 1))) ≡ termAt (λ j. star) (suc t) (left b (looping n f t) terms₀ facts₀ .terms) t ∷ []
+pub cyclic-shown : (b : RuleSet) → WellFormed b → {n f t : ℕ} → verdict b ≡ cyclicAt n f t → (terms₀ facts₀ : List ℕ)
+    → take 1 (cyclicTerms (entries b) (stage b (n - 1))) ≡ termAt (λ j. star) (suc t) (left b (cyclicAt n f t) terms₀ facts₀ .terms) t ∷ []
 cyclic-shown b w {n} {f} {t} e terms₀ facts₀ = ap (take 1) found ∙ ap (λ (u : Term). u ∷ []) (sym shown)
   where
-    l : Looping b n f t
-    l = looping-says b w e
+    l : CyclicAt b n f t
+    l = cyclicAt-says b w e
 
     found : cyclicTerms (entries b) (stage b (n - 1)) ≡ l .shown ∷ l .others
     found = let q = l .next in let p : n - 1 ≡ l .last = omega arith in rw p (l .found)
 
-    shown : termAt (λ j. star) (suc t) (left b (looping n f t) terms₀ facts₀ .terms) t ≡ l .shown
-    shown = held-shown (looping-held b w e) terms₀ facts₀
+    shown : termAt (λ j. star) (suc t) (left b (cyclicAt n f t) terms₀ facts₀ .terms) t ≡ l .shown
+    shown = held-shown (cyclicAt-held b w e) terms₀ facts₀

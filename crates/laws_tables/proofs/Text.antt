@@ -8,7 +8,7 @@ use lib.Dec.{ltb}
 use lib.ListN.{length, length-append}
 use borrow.Author.Tests.{ltb-true}
 use Rattle.model.specs.Lists.{all, collect}
-use Rattle.model.specs.Stages.{Verdict, accepted, looping, refused}
+use Rattle.model.specs.Stages.{Verdict, accepted, cyclicAt, refused}
 use Rattle.model.specs.Tables.{Checked}
 use Rattle.model.specs.Text.{line, lines, acceptedWord, cyclicWord, refusedWord, termWord, factWord, loopWord, termNumbers, factNumbers, records, text, declared, textOf}
 use Rattle.laws.proofs.Lists.{all-mem}
@@ -30,7 +30,7 @@ unfolding text all
 text-ascii arities (accepted n f t) terms facts =
     append-ascii (line acceptedWord (n ∷ f ∷ t ∷ [])) (records arities terms facts f t)
     (line-ascii acceptedWord (n ∷ f ∷ t ∷ []) (word-ascii acceptedWord refl)) (records-ascii arities terms facts f t)
-text-ascii arities (looping n f t) terms facts =
+text-ascii arities (cyclicAt n f t) terms facts =
     append-ascii (line cyclicWord (n ∷ f ∷ t ∷ [])) (records arities terms facts f t ++ line loopWord (termNumbers terms t))
     (line-ascii cyclicWord (n ∷ f ∷ t ∷ []) (word-ascii cyclicWord refl))
     (append-ascii (records arities terms facts f t) (line loopWord (termNumbers terms t)) (records-ascii arities terms facts f t)
@@ -116,10 +116,10 @@ length-accepted {n = n} {f} {t} l h =
     let j = length-records h in
     rw length-append (omega arith)
 
-pub length-looping : {arities terms facts : List ℕ} {n f t : ℕ} → n < 10 ^ 4 → Shown arities terms facts f t → TermLine (termNumbers terms t)
-    → length (text arities (looping n f t) terms facts) ≤ 72767
+pub length-cyclicAt : {arities terms facts : List ℕ} {n f t : ℕ} → n < 10 ^ 4 → Shown arities terms facts f t → TermLine (termNumbers terms t)
+    → length (text arities (cyclicAt n f t) terms facts) ≤ 72767
 unfolding text
-length-looping {arities} {terms} {facts} {n} {f} {t} l h k =
+length-cyclicAt {arities} {terms} {facts} {n} {f} {t} l h k =
     let p = h .terms-few in
     let q = h .facts-few in
     let i = length-header cyclicWord n f t l (omega arith) (omega arith) in

@@ -10,7 +10,7 @@ use Rattle.model.specs.Term.{Term, star, constant, apart, fresh, skolem,
 use Rattle.model.specs.Rules.{RuleSet, entries}
 use Rattle.model.specs.Format.{good, bad, read}
 use Rattle.model.specs.Triggers.{Fact}
-use Rattle.model.specs.Stages.{Stage, stage, Verdict, accepted, looping, refused, verdict, cyclicTerms}
+use Rattle.model.specs.Stages.{Stage, stage, Verdict, accepted, cyclicAt, refused, verdict, cyclicTerms}
 
 -- the number of a term: where it stands among the stage's terms
 unfoldable pub number : List Term → Term → ℕ
@@ -49,8 +49,8 @@ recorded v s us terms₀ facts₀ =
 -- accepted: that stage. Cyclic: the last stage made, and after its terms the first cyclic term of the next. Refused: zeros
 unfoldable pub left : RuleSet → Verdict → List ℕ → List ℕ → Checked
 left b (accepted n f t) terms₀ facts₀ = recorded (accepted n f t) (stage b n) [] terms₀ facts₀
-left b (looping n f t) terms₀ facts₀ =
-    let s : Stage = stage b (n - 1) in recorded (looping n f t) s (take 1 (cyclicTerms (entries b) s)) terms₀ facts₀
+left b (cyclicAt n f t) terms₀ facts₀ =
+    let s : Stage = stage b (n - 1) in recorded (cyclicAt n f t) s (take 1 (cyclicTerms (entries b) s)) terms₀ facts₀
 left b (refused n p) terms₀ facts₀ = record { verdict = refused n p; terms = fronted termsFront [] terms₀; facts = fronted factsFront [] facts₀ }
 
 -- everything that `check` answers and leaves behind: refusal 1 first, and 1 to 10 change nothing

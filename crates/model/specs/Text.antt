@@ -7,7 +7,7 @@ use lib.ListN.{getD, take, drop, replicate}
 use Rattle.model.specs.Limits.{termWidth, inputLimit, termsFront, factsFront}
 use Rattle.model.specs.Lists.{collect, row}
 use Rattle.model.specs.Format.{good, bad, read}
-use Rattle.model.specs.Stages.{Verdict, accepted, looping, refused}
+use Rattle.model.specs.Stages.{Verdict, accepted, cyclicAt, refused}
 use Rattle.model.specs.Tables.{Checked, checked}
 
 -- at most so many decimal digits, without leading zeros
@@ -67,7 +67,7 @@ records arities terms facts f t =
 
 unfoldable pub text : List ℕ → Verdict → List ℕ → List ℕ → List ℕ
 text arities (accepted n f t) terms facts = line acceptedWord (n ∷ f ∷ t ∷ []) ++ records arities terms facts f t
-text arities (looping n f t) terms facts =
+text arities (cyclicAt n f t) terms facts =
     line cyclicWord (n ∷ f ∷ t ∷ []) ++ (records arities terms facts f t ++ line loopWord (termNumbers terms t))
 text arities (refused n p) terms facts = line refusedWord (n ∷ p ∷ [])
 

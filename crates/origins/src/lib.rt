@@ -11,7 +11,7 @@ ghost use Rattle.form_variables.specs.Sets.{setOf};
 ghost use Rattle.form.specs.Places.{RuleAt, ruleOf};
 ghost use Rattle.form_functions.specs.Functions.{numberedOf};
 ghost use Rattle.tables.specs.Rows.{rows};
-ghost use Rattle.facts.specs.Room.{Room};
+ghost use Rattle.facts.specs.Room.{TakesTerms, HoldsTerms};
 ghost use Rattle.outputs.specs.Skolem.{numberLimit};
 ghost use Rattle.outputs.specs.Naming.{held, Takes, Holds};
 ghost use Rattle.disjuncts.specs.Disjunct.{DisjunctAt};
@@ -66,14 +66,14 @@ fn origin_numbers(frontier: u8, others: u8, table: &[u16], j: usize, base: u16) 
 
 // Writes `k` rows without a Skolem function behind the first `n`.
 fn add_constants(table: &mut [u16], n: usize, k: usize) -> usize
-    requires { ⌜ Room 10 (now table) (rows 10 n (now table) ++ replicate k constantRow) ⌝ }
-    ensures { λ r. ⌜ rows 10 r (now (table .exit)) ≡ rows 10 n (now (table .entry)) ++ replicate k constantRow ⌝ }
+    requires { ⌜ TakesTerms (now table) n (rows 10 n (now table) ++ replicate k constantRow) ⌝ }
+    ensures { λ r. ⌜ HoldsTerms (now (table .exit)) r (rows 10 n (now (table .entry)) ++ replicate k constantRow) ⌝ }
 {
     let row: [u16; 10] = [0; 10];
     let mut m = n;
     let mut i = 0;
     while i < k {
-        tables::put(&mut *table, m * 10, &row[..]);
+        terms::append_term(&mut *table, m, row);
         m += 1;
         i += 1;
     }
@@ -93,7 +93,7 @@ fn enter_origin(
     m: usize,
     limit: usize,
 ) -> outputs::Counts
-    requires { ⌜ DisjunctAt (now form) (now before) i d × (j < n) × (n < numberLimit) × Takes (now table) (now facts) m limit (enterOrigin (numberedOf (now form) i d) (argumentsIn (row 10 j (now table))) (held (now table) n (now facts) m)) ⌝ }
+    requires { ⌜ DisjunctAt (now form) (now before) i d × (j < n) × (n < numberLimit) × Takes (now table) n (now facts) m limit (enterOrigin (numberedOf (now form) i d) (argumentsIn (row 10 j (now table))) (held (now table) n (now facts) m)) ⌝ }
     ensures { λ r. ⌜ Holds (now (table .exit)) (r .terms) (now (facts .exit)) (r .facts) limit (enterOrigin (numberedOf (now (form .entry)) i d) (argumentsIn (row 10 j (now (table .entry)))) (held (now (table .entry)) n (now (facts .entry)) m)) ⌝ }
 {
     let others = others_set(form, i);
@@ -134,7 +134,7 @@ fn origin_of(
     m: usize,
     limit: usize,
 ) -> outputs::Counts
-    requires { ⌜ TermAt (now form) (now before) (now table) j n × Takes (now table) (now facts) m limit (originStep (disjunctsIn (now form)) (row 10 j (now table)) (held (now table) n (now facts) m)) ⌝ }
+    requires { ⌜ TermAt (now form) (now before) (now table) j n × Takes (now table) n (now facts) m limit (originStep (disjunctsIn (now form)) (row 10 j (now table)) (held (now table) n (now facts) m)) ⌝ }
     ensures { λ r. ⌜ Holds (now (table .exit)) (r .terms) (now (facts .exit)) (r .facts) limit (originStep (disjunctsIn (now (form .entry))) (row 10 j (now (table .entry))) (held (now (table .entry)) n (now (facts .entry)) m)) ⌝ }
 {
     let f = table[j * 10];
@@ -166,7 +166,7 @@ pub fn enter_origins(
     m: usize,
     limit: usize,
 ) -> outputs::Counts
-    requires { ⌜ TermsOf (now form) (now before) (now table) n × (length (originsIn (now form) (now table) n (now facts) m .terms) < numberLimit) × Takes (now table) (now facts) m limit (originsIn (now form) (now table) n (now facts) m) ⌝ }
+    requires { ⌜ TermsOf (now form) (now before) (now table) n × (length (originsIn (now form) (now table) n (now facts) m .terms) < numberLimit) × Takes (now table) n (now facts) m limit (originsIn (now form) (now table) n (now facts) m) ⌝ }
     ensures { λ r. ⌜ Holds (now (table .exit)) (r .terms) (now (facts .exit)) (r .facts) limit (originsIn (now (form .entry)) (now (table .entry)) n (now (facts .entry)) m) ⌝ }
 {
     let mut a = n;

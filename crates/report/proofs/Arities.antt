@@ -10,7 +10,7 @@ use Rattle.model.specs.Rules.{RuleSet}
 use Rattle.model.specs.WellFormed.{WellFormed}
 use Rattle.model.specs.Format.{Parsed, good, bad, read}
 use Rattle.model.specs.Form.{formLength, aritiesPlace, ruleRow, encoded, Reading, reading}
-use Rattle.model.specs.Stages.{Verdict, accepted, looping, refused}
+use Rattle.model.specs.Stages.{Verdict, accepted, cyclicAt, refused}
 use Rattle.model.specs.Text.{line, lines, acceptedWord, cyclicWord, factWord, loopWord, termNumbers, factNumbers, records, text}
 use Rattle.laws.proofs.Places.{length-padded, getD-padded}
 use Rattle.laws_format.proofs.Bytes.{read-well-formed}
@@ -72,5 +72,5 @@ module _ (as′ bs : List ℕ) (h : (p : ℕ) → getD as′ p 0 ≡ getD bs p 0
   pub same-text : (v : Verdict) → text as′ v terms facts ≡ text bs v terms facts
   unfolding text
   same-text (accepted n f t) = ap (λ (xs : List ℕ). line acceptedWord (n ∷ f ∷ t ∷ []) ++ xs) (same-records f t)
-  same-text (looping n f t) = ap (λ (xs : List ℕ). line cyclicWord (n ∷ f ∷ t ∷ []) ++ (xs ++ line loopWord (termNumbers terms t))) (same-records f t)
+  same-text (cyclicAt n f t) = ap (λ (xs : List ℕ). line cyclicWord (n ∷ f ∷ t ∷ []) ++ (xs ++ line loopWord (termNumbers terms t))) (same-records f t)
   same-text (refused n p) = refl

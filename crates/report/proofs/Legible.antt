@@ -20,7 +20,7 @@ use Rattle.laws_tables.proofs.Facts.{length-factRow}
 use Rattle.laws_tables.proofs.Recorded.{Recorded, terms-begin, facts-begin}
 use Rattle.laws_tables.proofs.Fronts.{Within}
 use Rattle.laws_tables.proofs.Courses.{Course, short, faulty, judged, course, left-verdict}
-use Rattle.laws_tables.proofs.Spelled.{Held, accepted-held, looping-held}
+use Rattle.laws_tables.proofs.Spelled.{Held, accepted-held, cyclicAt-held}
 use Rattle.dmfa.specs.declared.verdict.Verdict.{Verdict}
 use Rattle.dmfa.specs.declared.verdict.Verdict.the-variants.{Accepted, Cyclic, Refused}
 use Rattle.dmfa.specs.Verdict.{meant}
@@ -90,7 +90,7 @@ left-legible : (b : RuleSet) → WellFormed b → (terms₀ facts₀ as′ : Lis
 left-legible b w terms₀ facts₀ as′ r g (Accepted n f t) e =
     let h = accepted-held b w e in (fewer-terms (held-terms h terms₀ facts₀) t (omega arith), held-facts h terms₀ facts₀ as′ r g)
 left-legible b w terms₀ facts₀ as′ r g (Cyclic n f t) e =
-    let h = looping-held b w e in (fewer-terms (held-terms h terms₀ facts₀) (suc t) (omega arith), held-facts h terms₀ facts₀ as′ r g)
+    let h = cyclicAt-held b w e in (fewer-terms (held-terms h terms₀ facts₀) (suc t) (omega arith), held-facts h terms₀ facts₀ as′ r g)
 left-legible b w terms₀ facts₀ as′ r g (Refused n p) e = tt
 
 pub checked-legible : (bytes terms₀ facts₀ as′ : List ℕ) → Declares bytes as′ → (v : Verdict) → checked bytes terms₀ facts₀ .verdict ≡ meant v

@@ -9,8 +9,8 @@ use Rattle.model.specs.Rules.{Atom, universal}
 use Rattle.rows.specs.Tables.{stands}
 use Rattle.rows.specs.Triggers.{numbers, atomFact, holdsAt, spread}
 use Rattle.tables.specs.Rows.{rows}
-use Rattle.triggers.specs.Match.{holdsRow}
-use Rattle.triggers.proofs.Encode.{holds-is}
+use Rattle.laws_triggers.specs.Match.{holdsRow}
+use Rattle.laws_triggers.proofs.Encode.{holds-is}
 use Rattle.form.specs.Places.{aritiesOf, rulesOf, ruleOf}
 use Rattle.form.proofs.Places.{rule-well-formed}
 use Rattle.rows.specs.Making.{handled}

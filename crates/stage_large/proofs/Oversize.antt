@@ -13,11 +13,11 @@ use Rattle.laws.proofs.Lists.{keep-yes, keep-no, map-mem}
 use Rattle.rows.specs.Triggers.{triggersAt, spread}
 use Rattle.tables.specs.Rows.{rows}
 use Rattle.tables.proofs.Tables.{rows-length}
-use Rattle.triggers.specs.Match.{Body, holdsRow}
-use Rattle.triggers.specs.Next.{triggersFrom}
+use Rattle.laws_triggers.specs.Match.{Body, holdsRow}
+use Rattle.laws_triggers.specs.Next.{triggersFrom}
 use Rattle.new_triggers.specs.Unhandled.{unhandledFrom, NothingUnhandled}
-use Rattle.triggers.proofs.Encode.{triggers-are}
-use Rattle.new_triggers.proofs.Onward.{unhandled-kept}
+use Rattle.laws_triggers.proofs.Encode.{triggers-are}
+use Rattle.new_triggers.proofs.Unhandled.{unhandled-kept}
 use Rattle.form.specs.Places.{aritiesOf, rulesOf, ruleOf, atomRows, atomArities}
 use Rattle.form_variables.specs.Sets.{setOf}
 use Rattle.form.proofs.Places.{rule-well-formed}

@@ -18,10 +18,10 @@ use Rattle.rows.specs.Triggers.{triggersAt, spread}
 use Rattle.tables.specs.Rows.{rows}
 use Rattle.tables.specs.Terms.{total as totalOf, sizeAt}
 use Rattle.tables.proofs.Tables.{rows-length}
-use Rattle.triggers.specs.Match.{Body, Searchable}
-use Rattle.triggers.specs.Next.{triggersFrom}
+use Rattle.laws_triggers.specs.Match.{Body, Searchable}
+use Rattle.laws_triggers.specs.Next.{triggersFrom}
 use Rattle.new_triggers.specs.Unhandled.{Apart}
-use Rattle.triggers.proofs.Encode.{triggers-are}
+use Rattle.laws_triggers.proofs.Encode.{triggers-are}
 use Rattle.new_triggers.proofs.Apart.{apart}
 use Rattle.form.specs.Places.{Held, aritiesOf, rulesOf, ruleOf, atomRows, atomArities}
 use Rattle.form_variables.specs.Sets.{setOf}

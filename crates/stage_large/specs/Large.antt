@@ -10,8 +10,8 @@ use Rattle.model.specs.Rules.{blockable}
 use Rattle.rows.specs.Judging.{total as sum, sizeIn}
 use Rattle.rows.specs.Making.{Left, handled}
 use Rattle.tables.specs.Terms.{Ordered, total, sizeAt}
-use Rattle.triggers.specs.Match.{Body, Searchable}
-use Rattle.triggers.specs.Index.{Indexed}
+use Rattle.laws_triggers.specs.Match.{Body, Searchable}
+use Rattle.fact_index.specs.Index.{Indexed}
 use Rattle.new_triggers.specs.Unhandled.{Apart}
 use Rattle.form.specs.Places.{rulesOf, ruleOf}
 use Rattle.form_variables.specs.Sets.{elements}

@@ -1,7 +1,7 @@
-pub mod After
-pub mod Coming
 pub mod Most
-pub mod Skipping
 pub mod Stays
+pub mod After
 pub mod Unhandled
+pub mod Skipping
+pub mod Coming
 pub mod Visits

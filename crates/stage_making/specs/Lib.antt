@@ -1,3 +1,3 @@
 pub mod Stage
-pub mod Pinning
-pub mod Blockable
+pub mod Trigger
+pub mod Plan

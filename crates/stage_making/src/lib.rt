@@ -1,4 +1,4 @@
-// What the making of a rule's triggers asks and leaves, behind a stage that is left; and the output of a trigger where there is room for it.
-// The contracts cite specs/Stage.
+// What the making of a rule's triggers asks and leaves, behind a stage that is left; and one trigger made. The contracts cite specs/Stage and
+// specs/Trigger.
 pub mod progress;
-pub mod roomy;
+pub mod trigger;

@@ -19,8 +19,8 @@ use Rattle.tables.proofs.Tables.{rows-length}
 use Rattle.facts.proofs.Atoms.{numbersFrom-snoc}
 use Rattle.rows.specs.Copies.{argumentsIn}
 use Rattle.tables.proofs.Cells.{numbersFrom-take}
-use Rattle.rows.specs.Making.{occursIn, cyclicRow, firstCyclic}
-use Rattle.stage_output.specs.Cyclic.{Arguments, rowWith, rowsWith, cyclicOf, Unchanging}
+use Rattle.rows.specs.Making.{Ground, occursIn, cyclicRow, firstCyclic}
+use Rattle.stage_output.specs.Cyclic.{Arguments, groundIn, rowWith, rowsWith, cyclicOf, Unchanging}
 use Rattle.stage_output.proofs.Flat.{occursIn-is}
 use Rattle.stage_output.specs.declared.cyclic.Cyclic.{Cyclic}
 
@@ -41,7 +41,7 @@ arguments-first row long h = sym (numbersFrom-take row 2 (getD row 1 0) (omega a
 -- a row is cyclic if its function stands in a marked term, when its arguments are marked and nothing else, of the first k, which they are among
 pub cyclic-marked : {n k : ℕ} {t row : List ℕ} → Ordered n t → k ≤ n → length row ≡ 10 → Arguments k row
     → (marks : List Bool) → k ≤ length marks → ((a : ℕ) → a < k → getD marks a false ≡ false)
-    → cyclicRow (rows 10 n t) row ≡ occursMarked t (getD row 0 0) k (marked (argumentsOf row 0) marks)
+    → cyclicRow (groundIn n t) row ≡ occursMarked t (getD row 0 0) k (marked (argumentsOf row 0) marks)
 unfolding cyclicRow
 cyclic-marked {n} {k} {t} {row} o few long h marks room none =
     ap (any (occursIn (length (rows 10 n t)) (rows 10 n t) f)) (arguments-first row long (h .few))
@@ -67,44 +67,44 @@ arguments-set {n} {template} f h =
 
 -- the first cyclic row
 
-module _ (ts : List (List ℕ)) where
-  pub first-none : (ls : List (List ℕ)) → firstCyclic ts ls [] ≡ ls
+module _ (g : Ground) where
+  pub first-none : (ls : List (List ℕ)) → firstCyclic g ls [] ≡ ls
   unfolding firstCyclic
   first-none [] = refl
   first-none (l ∷ ls) = refl
 
-  pub first-append : (ls xs ys : List (List ℕ)) → firstCyclic ts ls (xs ++ ys) ≡ firstCyclic ts (firstCyclic ts ls xs) ys
+  pub first-append : (ls xs ys : List (List ℕ)) → firstCyclic g ls (xs ++ ys) ≡ firstCyclic g (firstCyclic g ls xs) ys
   unfolding firstCyclic
   first-append (l ∷ ls) xs ys = refl
   first-append [] [] ys = refl
-  first-append [] (x ∷ xs) ys = go (first-append [] xs ys) (case (cyclicRow ts x))
+  first-append [] (x ∷ xs) ys = go (first-append [] xs ys) (case (cyclicRow g x))
     where
-      go : firstCyclic ts [] (xs ++ ys) ≡ firstCyclic ts (firstCyclic ts [] xs) ys → (cyclicRow ts x ≡ true) ⊎ (cyclicRow ts x ≡ false)
-          → firstCyclic ts [] (x ∷ (xs ++ ys)) ≡ firstCyclic ts (firstCyclic ts [] (x ∷ xs)) ys
+      go : firstCyclic g [] (xs ++ ys) ≡ firstCyclic g (firstCyclic g [] xs) ys → (cyclicRow g x ≡ true) ⊎ (cyclicRow g x ≡ false)
+          → firstCyclic g [] (x ∷ (xs ++ ys)) ≡ firstCyclic g (firstCyclic g [] (x ∷ xs)) ys
       go below (inl e) = rw (e, firstCyclic)
       go below (inr e) = rw (e, firstCyclic) below
 
   -- one was found before
-  pub first-old : (c : Cyclic) (rs : List (List ℕ)) → c .found ≡ true → cyclicOf c ≡ firstCyclic ts (cyclicOf c) rs
+  pub first-old : (c : Cyclic) (rs : List (List ℕ)) → c .found ≡ true → cyclicOf c ≡ firstCyclic g (cyclicOf c) rs
   unfolding firstCyclic cyclicOf
   first-old c rs e = rw (e, cyclicOf)
 
   module _ (c : Cyclic) (f : ℕ) (template : List ℕ) where
     -- a variable of the body
-    pub first-without : f ≡ 0 → cyclicOf c ≡ firstCyclic ts (cyclicOf c) (rowWith f template)
+    pub first-without : f ≡ 0 → cyclicOf c ≡ firstCyclic g (cyclicOf c) (rowWith f template)
     unfolding rowWith
     first-without e = sym (rw (eq-eqb f 0 e, rowWith) (first-none (cyclicOf c)))
 
     -- a variable with a Skolem function, by its test
-    pub first-test : c .found ≡ false → (f ≡ 0 → ⊥) → (found : Bool) → found ≡ cyclicRow ts (set template 0 f)
-        → cyclicOf (record { found = found; row = set template 0 f }) ≡ firstCyclic ts (cyclicOf c) (rowWith f template)
+    pub first-test : c .found ≡ false → (f ≡ 0 → ⊥) → (found : Bool) → found ≡ cyclicRow g (set template 0 f)
+        → cyclicOf (record { found = found; row = set template 0 f }) ≡ firstCyclic g (cyclicOf c) (rowWith f template)
     unfolding rowWith cyclicOf firstCyclic
     first-test e h true p = rw (e, ne-eqb f 0 h, cyclicOf, rowWith) (rw (sym p, firstCyclic))
     first-test e h false p = rw (e, ne-eqb f 0 h, cyclicOf, rowWith) (rw (sym p, firstCyclic))
 
   -- a function that was tested makes no difference again
-  pub unchanging-again : (f : ℕ) (template : List ℕ) → (f ≡ 0 → ⊥) → (found : Bool) → found ≡ cyclicRow ts (set template 0 f)
-      → Unchanging ts template (record { found = found; row = set template 0 f }) f
+  pub unchanging-again : (f : ℕ) (template : List ℕ) → (f ≡ 0 → ⊥) → (found : Bool) → found ≡ cyclicRow g (set template 0 f)
+      → Unchanging g template (record { found = found; row = set template 0 f }) f
   unchanging-again f template h true p = first-old (record { found = true; row = set template 0 f }) (rowWith f template) refl
   unchanging-again f template h false p = first-test (record { found = false; row = set template 0 f }) f template refl h false p
 

@@ -10,9 +10,13 @@ use Rattle.model.specs.Limits.{termWidth, termLimit}
 use Rattle.model.specs.Lists.{collect}
 use Rattle.tables.specs.Rows.{rows}
 use Rattle.tables.specs.Terms.{Ordered}
-use Rattle.rows.specs.Making.{firstCyclic}
+use Rattle.rows.specs.Making.{Ground, firstCyclic}
 use Rattle.stage_output.specs.declared.cyclic.Cyclic.{Cyclic}
 use Rattle.stage_output.specs.declared.cyclic.Tested.{Tested}
+
+-- what a row is told cyclic by, where the stage that is left has the first n terms of a table
+abbrev pub groundIn : ℕ → List ℕ → Ground
+groundIn n terms = record { terms = rows termWidth n terms }
 
 unfoldable pub cyclicOf : Cyclic → List (List ℕ)
 cyclicOf c = elim (c .found) [ true ↦ c .row ∷ [] | false ↦ [] ]
@@ -30,17 +34,17 @@ unfoldable pub rowsWith : List ℕ → List ℕ → List ℕ → List (List ℕ)
 rowsWith functions template vs = collect (λ (v : ℕ). rowWith (getD functions v 0) template) vs
 
 -- the row of a function makes no difference to the first cyclic row: one was found, or the function was tested, or it is 0
-abbrev pub Unchanging : List (List ℕ) → List ℕ → Cyclic → ℕ → Type 0
-Unchanging terms template c function = cyclicOf c ≡ firstCyclic terms (cyclicOf c) (rowWith function template)
+abbrev pub Unchanging : Ground → List ℕ → Cyclic → ℕ → Type 0
+Unchanging g template c function = cyclicOf c ≡ firstCyclic g (cyclicOf c) (rowWith function template)
 
 -- Skolem rows over the first n terms can be looked at, and the function tested last need not be
 pub record Testable (n : ℕ) (terms template : List ℕ) (before : Tested) : Type 0 where
   pub ordered : Ordered n terms
   pub few : n ≤ termLimit
   pub arguments : Arguments n template
-  pub unchanging : Unchanging (rows termWidth n terms) template (before .cyclic) (before .function)
+  pub unchanging : Unchanging (groundIn n terms) template (before .cyclic) (before .function)
 
 -- the first cyclic row once some Skolem rows were looked at
 pub record Looked (n : ℕ) (terms template : List ℕ) (skolem : List (List ℕ)) (before after : Tested) : Type 0 where
-  pub first : cyclicOf (after .cyclic) ≡ firstCyclic (rows termWidth n terms) (cyclicOf (before .cyclic)) skolem
-  pub unchanging : Unchanging (rows termWidth n terms) template (after .cyclic) (after .function)
+  pub first : cyclicOf (after .cyclic) ≡ firstCyclic (groundIn n terms) (cyclicOf (before .cyclic)) skolem
+  pub unchanging : Unchanging (groundIn n terms) template (after .cyclic) (after .function)

@@ -2,13 +2,12 @@
 ghost use mathlib.Core.Path.{_≡_};
 ghost use Prim.Native.Nat.{ℕ, _≤_, _<_};
 ghost use lib.ListN.{getD};
-ghost use Rattle.model.specs.Limits.{termWidth, termLimit};
+ghost use Rattle.model.specs.Limits.{termLimit};
 ghost use Rattle.model.specs.Lists.{numbersFrom};
-ghost use Rattle.tables.specs.Rows.{rows};
 ghost use Rattle.tables.specs.Terms.{Ordered};
 ghost use Rattle.facts.specs.Atoms.{Sound};
 ghost use Rattle.rows.specs.Making.{cyclicRow};
-ghost use Rattle.stage_output.specs.Cyclic.{Arguments, rowWith, rowsWith, Testable, Looked};
+ghost use Rattle.stage_output.specs.Cyclic.{Arguments, groundIn, rowWith, rowsWith, Testable, Looked};
 
 // A stage has at most 512 terms.
 const TERM_LIMIT: usize = 512;
@@ -42,7 +41,7 @@ fn reach(row: [u16; 10]) -> usize
 // Whether a Skolem row over the first `n` terms is cyclic.
 fn is_cyclic(terms: &[u16], n: usize, row: [u16; 10]) -> bool
     requires { ⌜ Ordered n (now terms) × (n ≤ termLimit) × Arguments n row ⌝ }
-    ensures { λ r. ⌜ r ≡ cyclicRow (rows termWidth n (now (terms .entry))) row ⌝ }
+    ensures { λ r. ⌜ r ≡ cyclicRow (groundIn n (now (terms .entry))) row ⌝ }
 {
     let mut marks: [bool; TERM_LIMIT] = [false; TERM_LIMIT];
     tables::mark_arguments(&row[..], 0, &mut marks[..]);

@@ -1,15 +1,14 @@
 -- Laws of rows: a step of each search and of a write, as the loops take them. Assumes nothing.
 use mathlib.Core.Path.{_≡_, refl, sym, ap, _∙_}
 use mathlib.Core.Bool.{Bool, true, false, _&&_}
-use mathlib.Core.List.{List, [], _∷_, _++_}
+use mathlib.Core.List.{List, _++_}
 use mathlib.Core.Logic.{_⊎_, inl, inr}
 use Prim.Native.Nat.{ℕ, zero, suc, _+_, _-_, _*_, _≤_, _<_}
-use native.Mathlib.Nat.{suc-mul, mul-le-mul-right}
 use native.Mathlib.Numerals.{add-one}
 use native.Mathlib.Omega.{arith}
 use lib.Dec.{eqb}
 use lib.ListN.{length, getD, take, drop, set}
-use lib.Seq.{drop-cons, getD-drop, take-length, paste, paste-suc}
+use lib.Seq.{drop-cons, take-length, paste, paste-suc}
 use borrow.Author.Tests.{eq-eqb, ne-eqb}
 use Rattle.laws.proofs.Bools.{case}
 use Rattle.tables.specs.Rows.{begins, seekRow, findRow, written}
@@ -38,61 +37,6 @@ begins-not r t at i h k e =
 pub begins-none : (r t : List ℕ) (i : ℕ) → length r ≤ i → begins (drop i r) t ≡ true
 unfolding begins
 begins-none r t i h = rw (lib.ListN.drop-of-length-le r h) refl
-
--- a list that has another number at one of the row's places does not begin with the row
-
-and-no : (b : Bool) → b && false ≡ false
-and-no true = refl
-and-no false = refl
-
-begins-differs : (r ys : List ℕ) (j : ℕ) → j < length r → (getD ys j 0 ≡ getD r j 0 → ⊥) → begins r ys ≡ false
-unfolding begins
-begins-differs [] ys j h e = absurd (omega arith)
-begins-differs (x ∷ xs) [] j h e = refl
-begins-differs (x ∷ xs) (y ∷ ys) zero h e = ap (λ (b : Bool). b && begins xs ys) (ne-eqb x y (λ p. e (sym p)))
-begins-differs (x ∷ xs) (y ∷ ys) (suc j) h e = ap (λ (b : Bool). eqb x y && b) (begins-differs xs ys j (omega arith) e) ∙ and-no (eqb x y)
-
-pub begins-elsewhere : (r t : List ℕ) (at j : ℕ) → j < length r → (getD t (at + j) 0 ≡ getD r j 0 → ⊥) → begins r (drop at t) ≡ false
-begins-elsewhere r t at j h e = begins-differs r (drop at t) j h (λ p. e (sym (getD-drop at t j 0) ∙ p))
-
--- the search for a row, one row further
-
-pub seekRow-here : (r t : List ℕ) (i at n : ℕ) → at ≡ i * length r → i < n → begins r (drop at t) ≡ true → seekRow r t i (n - i) ≡ i
-unfolding seekRow
-seekRow-here r t i at n e h b =
-    let left : n - i ≡ suc (n - (i + 1)) = omega arith in
-    let found : begins r (drop (i * length r) t) ≡ true = ap (λ (k : ℕ). begins r (drop k t)) (sym e) ∙ b in
-    ap (λ (k : ℕ). seekRow r t i k) left ∙ rw (found, seekRow)
-
-pub seekRow-more : (r t : List ℕ) (i at n : ℕ) → at ≡ i * length r → i < n → begins r (drop at t) ≡ false
-    → seekRow r t i (n - i) ≡ seekRow r t (i + 1) (n - (i + 1))
-unfolding seekRow
-seekRow-more r t i at n e h b =
-    let left : n - i ≡ suc (n - (i + 1)) = omega arith in
-    let found : begins r (drop (i * length r) t) ≡ false = ap (λ (k : ℕ). begins r (drop k t)) (sym e) ∙ b in
-    ap (λ (k : ℕ). seekRow r t i k) left ∙ rw (found, seekRow) (ap (λ (k : ℕ). seekRow r t k (n - (i + 1))) (sym (add-one i)))
-
-pub seekRow-none : (r t : List ℕ) (i n : ℕ) → n ≤ i → seekRow r t i (n - i) ≡ i
-unfolding seekRow
-seekRow-none r t i n h = let e : n - i ≡ 0 = omega arith in ap (λ (k : ℕ). seekRow r t i k) e
-
--- every row is an empty one, so the first is, and where there is none that is 0 too
-pub findRow-empty : (r t : List ℕ) (n : ℕ) → length r ≡ 0 → findRow r n t ≡ 0
-unfolding findRow seekRow begins
-findRow-empty [] t zero e = refl
-findRow-empty [] t (suc n) e = refl
-findRow-empty (x ∷ xs) t n e = absurd (omega arith)
-
--- row offsets, over the width
-
-pub offset-more : (i w at : ℕ) → at ≡ i * w → at + w ≡ (i + 1) * w
-offset-more i w at e = ap (λ (k : ℕ). k + w) e ∙ sym (suc-mul i w) ∙ ap (λ (k : ℕ). k * w) (sym (add-one i))
-
-pub offset-within : (i w n l at : ℕ) → at ≡ i * w → i < n → n * w ≤ l → at + w ≤ l
-offset-within i w n l at e h k =
-    let a : suc i * w ≤ n * w = mul-le-mul-right w h in
-    let b : suc i * w ≡ i * w + w = suc-mul i w in
-    omega arith
 
 -- a write, one number further
 

@@ -7,8 +7,8 @@ use lib.Dec.{leb, ltb}
 use lib.ListN.{length, getD}
 use borrow.Author.Tests.{leb-true, ltb-true}
 use Rattle.laws.proofs.Bools.{and-true}
-use Rattle.triggers.specs.Match.{allBelow}
-use Rattle.triggers.proofs.Below.{all-below}
+use Rattle.laws_triggers.specs.Match.{allBelow}
+use Rattle.laws_triggers.proofs.Below.{all-below}
 use Rattle.text.specs.Legible.{LegibleTerms, LegibleFacts}
 
 arityFits : List ℕ → ℕ → Bool

@@ -1,7 +1,8 @@
 // Lists the triggers of small bodies over small sets of facts: a line for each, with the term number of each of the eight variables.
 use libc::STDOUT_FILENO;
+use new_triggers::Extent;
 ghost use Prim.Native.Nat.{_≤_};
-ghost use Rattle.triggers.specs.Match.{Searchable};
+ghost use Rattle.laws_triggers.specs.Match.{Searchable};
 
 // Room for the index of a few facts.
 const INDEX_ROOM: usize = 2600;
@@ -28,17 +29,23 @@ fn print_triggers(
     requires { ⌜ Searchable (record { atoms = body; arities = arities; count = atoms }) (now facts) count terms × (count ≤ 8) ⌝ }
 {
     let mut index = [0u16; INDEX_ROOM];
-    triggers::index::extend(facts, 0, count, &mut index);
-    let mut start = [0u16; 8];
+    fact_index::extend(facts, 0, count, &mut index);
+    let plan = cursor::plan_of_all(body, arities, atoms);
+    let over = Extent {
+        facts: count,
+        old: 0,
+        terms,
+    };
+    let mut at = new_triggers::begin(body, plan, over, facts, &index);
     loop {
-        let next = triggers::next_trigger(body, arities, atoms, start, facts, count, terms, &index);
-        if !next.found {
+        let step = new_triggers::next(body, plan, over, at, facts, &index);
+        if !step.found {
             return;
         }
-        let found = next.assignment;
-        print_assignment(found);
-        let after = triggers::behind(found, 7);
-        start = after;
+        let trigger = step.trigger;
+        print_assignment(trigger);
+        let behind = step.cursor;
+        at = behind;
     }
 }
 

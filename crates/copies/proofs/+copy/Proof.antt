@@ -1,13 +1,15 @@
 -- `copies::copy` meets its contract. The term number falls from a term to its arguments. The loop's invariant: the arguments passed are copied,
 -- and the row has their numbers. Assumes nothing.
-use mathlib.Core.Path.{_≡_, refl, sym, ap, _∙_}
-use Prim.Native.Nat.{ℕ, suc, _+_, _-_, _*_, _<_, _≤_}
+use mathlib.Core.Path.{_≡_, refl, _∙_}
+use Prim.Native.Nat.{ℕ, _+_, _-_, _<_, _≤_}
+use native.Mathlib.Numerals.{add-one}
 use native.Mathlib.Omega.{arith}
 use lib.ListN.{length}
 use Rattle.tables.specs.Rows.{rows}
 use Rattle.tables.specs.Terms.{copiedArity}
+use Rattle.tables.specs.TermHash.{KeptTerms}
 use Rattle.copies.proofs.Copies.{Copied, copiedArity-le, copied-none, copied-more, copied-room, copied-number, copied-length, copied-all, copied-last}
-use Rattle.facts.proofs.Rows.{room-same, rows-put}
+use Rattle.facts.proofs.Rows.{room-same}
 use borrow.Fn.Kinds.{In}
 use borrow.Fn.PlainCycle.{Measures, is, falls, and}
 use Rattle.copies.proofs.copy.Reads as copy
@@ -16,7 +18,7 @@ use Rattle.copies.proofs.+copy.Lts-copy as copy-lts
 use Rattle.tables.proofs.argument.Reads as argument-reads
 use Rattle.tables.proofs.copied_arity.Reads as copied-arity-reads
 use Rattle.tables.proofs.function.Reads as function-reads
-use Rattle.tables.proofs.put.Reads as put-reads
+use Rattle.terms.proofs.append_term.Reads as append-term-reads
 use Rattle.copies.proofs.+copy.{statement}
 use Rattle.copies.proofs.+copy.Tie.{close}
 
@@ -40,13 +42,13 @@ copy-claims t = (
   argument-reads.Learnt,
   copy-below t,
   copy.Post,
-  put-reads.Asked,
-  put-reads.Learnt,
+  append-term-reads.Asked,
+  append-term-reads.Learnt,
 )
 
 abbrev copy-Inv-loop : copy-lts.InvT-loop
 copy-Inv-loop terms count i table₀ n arity row₀ m₀ j₀ table row m j =
-    (arity ≡ copiedArity terms i) × (arity ≤ 8) × (length table ≡ length table₀) × Copied count terms i (rows 10 n table₀) table row m j
+    (arity ≡ copiedArity terms i) × (arity ≤ 8) × (length table ≡ length table₀) × Copied count terms i (rows 10 n table₀) table row m j × KeptTerms table m
 
 abbrev copy-μ-loop : copy-lts.MeasureT-loop
 copy-μ-loop terms count i table₀ n arity row₀ m₀ j₀ table row m j = arity - j
@@ -67,7 +69,7 @@ copy-loop-holds : (t : ℕ) → copy-lts.Need-loop-holds (copy-claims t) (copy-a
 copy-loop-holds t c =
     let s = c .before .before .before .before in
     let b = copiedArity-le (s .args .terms .now) (s .args .i) in
-    (c .before .copied-arity .ensures, omega (arith, c .before .copied-arity .ensures, s .pre .1 .0 .arity (s .args .i) (s .pre .1 .1)), refl, rw (c .function .ensures, c .before .copied-arity .ensures) (copied-none (s .args .count) (s .args .terms .now) (s .args .i) (s .args .n) (s .args .table .now)))
+    (c .before .copied-arity .ensures, omega (arith, c .before .copied-arity .ensures, s .pre .1 .0 .arity (s .args .i) (s .pre .1 .1)), refl, rw (c .function .ensures, c .before .copied-arity .ensures) (copied-none (s .args .count) (s .args .terms .now) (s .args .i) (s .args .n) (s .args .table .now)), s .pre .1 .2 .kept)
 
 copy-cast-loop : (t : ℕ) → copy-lts.Need-cast-loop (copy-claims t) (copy-at t) copy.Post copy-Inv-loop copy-μ-loop
 copy-cast-loop t c =
@@ -94,8 +96,8 @@ copy-copy-requires t c κs =
     let b = copiedArity-le (s .args .terms .now) (s .args .i) in
     let k : l .loop .j < copiedArity (s .args .terms .now) (s .args .i) = omega arith in
     let below = s .pre .1 .0 .before (s .args .i) (l .loop .j) (s .pre .1 .1) (omega arith) in
-    let room = copied-room (s .pre .1 .0) (s .args .i) (s .pre .1 .1) (l .loop .inv .3) (room-same (l .loop .table) (l .loop .inv .2) (s .pre .1 .2)) k in
-    (omega arith, (s .pre .1 .0, omega arith, rw q room))
+    let room = copied-room (s .pre .1 .0) (s .args .i) (s .pre .1 .1) (l .loop .inv .3) (room-same (l .loop .table) (l .loop .inv .2) (s .pre .1 .2 .room)) k in
+    (omega arith, (s .pre .1 .0, omega arith, rw q (record { kept = l .loop .inv .4; room = room })))
 
 copy-sub-row : (t : ℕ) → copy-lts.Need-sub-row (copy-claims t) (copy-at t) copy.Post copy-Inv-loop copy-μ-loop
 copy-sub-row t c =
@@ -103,7 +105,7 @@ copy-sub-row t c =
     let s = l .before .before .before .before .before in
     let e = l .loop .inv .0 in
     let k : l .loop .j < copiedArity (s .args .terms .now) (s .args .i) = omega arith in
-    copied-number (s .pre .1 .0) (s .args .i) (s .pre .1 .1) (l .loop .inv .3) (s .pre .1 .2) k (c .before .before .copy .result) (c .before .before .copy .last .1 .1 .1 .0) (rw (c .before .before .before .before .argument .ensures) at (c .before .before .copy .ensures)) .0
+    copied-number (s .pre .1 .0) (s .args .i) (s .pre .1 .1) (l .loop .inv .3) (s .pre .1 .2 .room) k (c .before .before .copy .result) (c .before .before .copy .last .1 .1 .1 .0) (rw (c .before .before .before .before .argument .ensures) at (c .before .before .copy .ensures .rows)) .0
 
 copy-cast-row : (t : ℕ) → copy-lts.Need-cast-row (copy-claims t) (copy-at t) copy.Post copy-Inv-loop copy-μ-loop
 copy-cast-row t c =
@@ -111,7 +113,7 @@ copy-cast-row t c =
     let s = l .before .before .before .before .before in
     let e = l .loop .inv .0 in
     let k : l .loop .j < copiedArity (s .args .terms .now) (s .args .i) = omega arith in
-    let b = copied-number (s .pre .1 .0) (s .args .i) (s .pre .1 .1) (l .loop .inv .3) (s .pre .1 .2) k (c .before .before .copy .result) (c .before .before .copy .last .1 .1 .1 .0) (rw (c .before .before .before .before .argument .ensures) at (c .before .before .copy .ensures)) in
+    let b = copied-number (s .pre .1 .0) (s .args .i) (s .pre .1 .1) (l .loop .inv .3) (s .pre .1 .2 .room) k (c .before .before .copy .result) (c .before .before .copy .last .1 .1 .1 .0) (rw (c .before .before .before .before .argument .ensures) at (c .before .before .copy .ensures .rows)) in
     omega arith
 
 copy-add-row : (t : ℕ) → copy-lts.Need-add-row (copy-claims t) (copy-at t) copy.Post copy-Inv-loop copy-μ-loop
@@ -140,63 +142,44 @@ copy-loop-again t c =
       e,
       l .loop .inv .1,
       c .before .before .copy .kept .1 .1 .1 .0 ∙ l .loop .inv .2,
-      copied-more (s .pre .1 .0) (s .args .i) (s .pre .1 .1) (l .loop .inv .3) (c .before .before .copy .last .1 .1 .1 .0) (c .before .before .copy .result) k (rw (c .before .before .before .before .argument .ensures) at (c .before .before .copy .ensures)),
+      copied-more (s .pre .1 .0) (s .args .i) (s .pre .1 .1) (l .loop .inv .3) (c .before .before .copy .last .1 .1 .1 .0) (c .before .before .copy .result) k (rw (c .before .before .before .before .argument .ensures) at (c .before .before .copy .ensures .rows)),
+      c .before .before .copy .ensures .kept,
     )
 
-copy-mul-put : (t : ℕ) → copy-lts.Need-mul-put (copy-claims t) (copy-at t) copy.Post copy-Inv-loop copy-μ-loop
-copy-mul-put t c =
+copy-append-term-requires : (t : ℕ) → copy-lts.Need-append-term-requires (copy-claims t) (copy-at t) copy.Post copy-Inv-loop copy-μ-loop
+copy-append-term-requires t c κs =
     let l = c .before .before in
     let s = l .before .before .before .before .before in
     let e = l .loop .inv .0 in
     let w = l .loop .inv .3 .within in
     let k : l .loop .j ≡ copiedArity (s .args .terms .now) (s .args .i) = omega arith in
-    let b = copied-last (s .pre .1 .0) (s .args .i) (s .pre .1 .1) (l .loop .inv .3) (s .pre .1 .2) k in
-    omega arith
-
-copy-slice-aggregate-put : (t : ℕ) → copy-lts.Need-slice-aggregate-put (copy-claims t) (copy-at t) copy.Post copy-Inv-loop copy-μ-loop
-copy-slice-aggregate-put t c =
-    let l = c .before .before .before in
-    let s = l .before .before .before .before .before in
-    sym (copied-length (s .pre .1 .0) (s .args .i) (s .pre .1 .1) (l .loop .inv .3))
-
-copy-put-requires : (t : ℕ) → copy-lts.Need-put-requires (copy-claims t) (copy-at t) copy.Post copy-Inv-loop copy-μ-loop
-copy-put-requires t c κs =
-    let l = c .before .before .before in
-    let s = l .before .before .before .before .before in
-    let e = l .loop .inv .0 in
-    let w = l .loop .inv .3 .within in
-    let k : l .loop .j ≡ copiedArity (s .args .terms .now) (s .args .i) = omega arith in
-    let b : (suc (l .loop .m) * 10 ≤ length (l .loop .table)) × (l .loop .m < 65536) = copied-last (s .pre .1 .0) (s .args .i) (s .pre .1 .1) (l .loop .inv .3) (room-same (l .loop .table) (l .loop .inv .2) (s .pre .1 .2)) k in
-    let z = copied-length (s .pre .1 .0) (s .args .i) (s .pre .1 .1) (l .loop .inv .3) in
-    omega arith
+    let (fits, few) = copied-last (s .pre .1 .0) (s .args .i) (s .pre .1 .1) (l .loop .inv .3) (room-same (l .loop .table) (l .loop .inv .2) (s .pre .1 .2 .room)) k in
+    (l .loop .inv .4, fits, few, copied-length (s .pre .1 .0) (s .args .i) (s .pre .1 .1) (l .loop .inv .3))
 
 copy-add-result : (t : ℕ) → copy-lts.Need-add-result (copy-claims t) (copy-at t) copy.Post copy-Inv-loop copy-μ-loop
 copy-add-result t c =
-    let l = c .before .before .before .before .before .before in
+    let l = c .before .before .before .before .before in
     let s = l .before .before .before .before .before in
     let e = l .loop .inv .0 in
     let w = l .loop .inv .3 .within in
     let k : l .loop .j ≡ copiedArity (s .args .terms .now) (s .args .i) = omega arith in
-    let b = copied-last (s .pre .1 .0) (s .args .i) (s .pre .1 .1) (l .loop .inv .3) (s .pre .1 .2) k in
+    let b = copied-last (s .pre .1 .0) (s .args .i) (s .pre .1 .1) (l .loop .inv .3) (s .pre .1 .2 .room) k in
     omega arith
 
 copy-same-length : (t : ℕ) → copy-lts.Need-same-length (copy-claims t) (copy-at t) copy.Post copy-Inv-loop copy-μ-loop
 copy-same-length t c =
-    let l = c .before .before .before .before .before .before in
-    c .before .before .put .kept .0 ∙ l .loop .inv .2
+    let l = c .before .before .before .before .before in
+    c .before .before .append-term .kept .0 ∙ l .loop .inv .2
 
 copy-returns : (t : ℕ) → copy-lts.Need-returns (copy-claims t) (copy-at t) copy.Post copy-Inv-loop copy-μ-loop
 copy-returns t c =
-    let l = c .before .before .before .before .before .before in
+    let l = c .before .before .before .before .before in
     let s = l .before .before .before .before .before in
     let e = l .loop .inv .0 in
     let w = l .loop .inv .3 .within in
     let k : l .loop .j ≡ copiedArity (s .args .terms .now) (s .args .i) = omega arith in
-    let b = copied-last (s .pre .1 .0) (s .args .i) (s .pre .1 .1) (l .loop .inv .3) (room-same (l .loop .table) (l .loop .inv .2) (s .pre .1 .2)) k in
-    let z = copied-length (s .pre .1 .0) (s .args .i) (s .pre .1 .1) (l .loop .inv .3) in
-    ap (rows 10 (l .loop .m + 1)) (c .before .before .put .ensures)
-    ∙ rows-put 10 (l .loop .m) (l .loop .row) (l .loop .table) z (b .0)
-    ∙ copied-all (s .pre .1 .0) (s .args .i) (s .pre .1 .1) (l .loop .inv .3) k
+    let d = c .before .before .append-term .ensures in
+    rw (add-one (l .loop .m)) (record { rows = d .0 ∙ copied-all (s .pre .1 .0) (s .args .i) (s .pre .1 .1) (l .loop .inv .3) k; kept = d .1 })
 
 pub +copy-spec : {M : Type 1} → statement M
 +copy-spec = close μ-copy λ t. copy-lts.spec (copy-claims t)
@@ -220,9 +203,7 @@ pub +copy-spec : {M : Type 1} → statement M
     (copy-add-j t)
     (copy-loop-less t)
     (copy-loop-again t)
-    (copy-mul-put t)
-    (copy-slice-aggregate-put t)
-    (copy-put-requires t)
+    (copy-append-term-requires t)
     (copy-add-result t)
     (copy-same-length t)
     (copy-returns t)

@@ -31,18 +31,6 @@ returns c = let a = c .before .before .before .before .args in checked-short (a 
 returns-2 : tie.Need-returns-2
 returns-2 c = let a = c .before .before .before .before .before .args in checked-short (a .bytes .now) (a .terms .now) (a .facts .now) (inr (c .if2 .taken))
 
-slice-aggregate-read : tie.Need-slice-aggregate-read
-slice-aggregate-read c = search needs
-
-read-requires : tie.Need-read-requires
-read-requires c κs = search needs
-
-enum-told : tie.Need-enum-told
-enum-told c = search needs
-
-slice-aggregate-check-form : tie.Need-slice-aggregate-check-form
-slice-aggregate-check-form c = search needs
-
 check-form-requires : tie.Need-check-form-requires
 check-form-requires c κs =
     let t = c .before .before .before in
@@ -50,18 +38,6 @@ check-form-requires c κs =
     let s = e .before .before .before .before .before in
     let h = fronts e in
     (form-held (s .args .bytes .now) (replicate 6850 0) (s .args .terms .now) (s .args .facts .now) zeros h (t .enum-told .given .0 .0) _ (was-read t), h .terms, h .facts)
-
-enum-known-read : tie.Need-enum-known-read
-enum-known-read c = search needs
-
-cast-t19 : tie.Need-cast-t19
-cast-t19 c = search needs
-
-same-length : tie.Need-same-length
-same-length c = search needs
-
-same-length-2 : tie.Need-same-length-2
-same-length-2 c = search needs
 
 returns-3 : tie.Need-returns-3
 returns-3 c =
@@ -85,14 +61,14 @@ check-spec =
     (tie.spec
     returns
     returns-2
-    slice-aggregate-read
-    read-requires
-    enum-told
-    slice-aggregate-check-form
+    (λ c. search needs)
+    (λ c κs. search needs)
+    (λ c. search needs)
+    (λ c. search needs)
     check-form-requires
-    enum-known-read
-    cast-t19
-    same-length
-    same-length-2
+    (λ c. search needs)
+    (λ c. search needs)
+    (λ c. search needs)
+    (λ c. search needs)
     returns-3
     returns-4)

@@ -12,9 +12,6 @@ use Rattle.dmfa.proofs.check_by.Tie as tie
 judge-requires : tie.Need-judge-requires
 judge-requires c κs = let s = c .before .before .before .before .before .before .before .before in (s .pre .0 .held, s .pre .0 .numbered, s .pre .1, s .pre .2)
 
-enum-known-judgement : tie.Need-enum-known-judgement
-enum-known-judgement c = search needs
-
 -- the counts of the answer are within the limits, and its rows are those of the definition
 few : (c : tie.After-judgement) → (c .judgement .given .0 .1 .0 ≤ 513) × (c .judgement .given .0 .1 .1 .0 ≤ 2048)
 few c =
@@ -31,7 +28,7 @@ fill-requires : tie.Need-fill-requires
 fill-requires c κs =
     let s = c .before .before .before .before .before .before .before .before .before .before .before .before .before .before .before .before .before .before in
     let f = few (c .before .before .before) in
-    (omega (arith, f .0, c .before .before .before .before .before .before .before .before .before .judge .kept .1 .1 .0, s .pre .1), omega (arith, f .0), s .pre .0 .terms-long)
+    (omega (arith, f .0, c .before .before .before .before .before .before .before .before .before .judge .kept .1 .1 .0, s .pre .1 .wide), omega (arith, f .0), s .pre .0 .terms-long)
 
 mul-fill-2 : tie.Need-mul-fill-2
 mul-fill-2 c = let f = few (c .before .before .before .before .before .before .before) in omega (arith, f .1)
@@ -41,21 +38,6 @@ fill-requires-2 c κs =
     let s = c .before .before .before .before .before .before .before .before .before .before .before .before .before .before .before .before .before .before .before .before .before .before .before in
     let f = few (c .before .before .before .before .before .before .before .before) in
     (omega (arith, f .1, c .before .before .before .before .before .before .before .before .before .before .before .before .before .before .judge .kept .1 .1 .1 .0, s .pre .2 .limited .fits), omega (arith, f .1), s .pre .0 .facts-long)
-
-enum-told : tie.Need-enum-told
-enum-told c = search needs
-
-same-length : tie.Need-same-length
-same-length c = search needs
-
-same-length-2 : tie.Need-same-length-2
-same-length-2 c = search needs
-
-same-length-3 : tie.Need-same-length-3
-same-length-3 c = search needs
-
-same-length-4 : tie.Need-same-length-4
-same-length-4 c = search needs
 
 returns : tie.Need-returns
 returns c =
@@ -68,12 +50,6 @@ returns c =
     (subst (JudgedAs (s .args .form .now) (length (s .args .room .now)) (d .last .1 .1 .0) (d .last .1 .1 .1 .0)) (g .1) (d .ensures)) (s .args .terms .now) (s .args .facts .now)
     (p .last .1 .1 .1 .0) (q .last .1 .1 .1 .0) (p .ensures) (q .ensures)
 
-same-length-5 : tie.Need-same-length-5
-same-length-5 c = search needs
-
-same-length-6 : tie.Need-same-length-6
-same-length-6 c = search needs
-
 returns-2 : tie.Need-returns-2
 returns-2 c =
     let s = c .before .before .before .before .before .before .before .before .before .before .before .before .before .before .before in
@@ -85,17 +61,17 @@ check-by-spec =
     tie.close
     (tie.spec
     judge-requires
-    enum-known-judgement
+    (λ c. search needs)
     mul-fill
     fill-requires
     mul-fill-2
     fill-requires-2
-    enum-told
-    same-length
-    same-length-2
-    same-length-3
-    same-length-4
+    (λ c. search needs)
+    (λ c. search needs)
+    (λ c. search needs)
+    (λ c. search needs)
+    (λ c. search needs)
     returns
-    same-length-5
-    same-length-6
+    (λ c. search needs)
+    (λ c. search needs)
     returns-2)

@@ -25,40 +25,19 @@ numbered j =
     let room : places f ≤ length (d .last .1 .0) = omega (arith, few-rules f (s .pre .0)) in
     subst (Numbered f) (sym (d .ensures .1)) (numbering-numbered f (drop (places f) (replicate 256 0)) (subst (λ (l : List ℕ). places f ≤ length l) (d .ensures .1) room))
 
-slice-aggregate-number-functions : tie.Need-slice-aggregate-number-functions
-slice-aggregate-number-functions c = search needs
-
 number-functions-requires : tie.Need-number-functions-requires
 number-functions-requires c κs =
     let s = c .before .before .before .before in
     (s .pre .0, omega (arith, few-rules (s .args .form .now) (s .pre .0)))
 
-slice-aggregate-check-small : tie.Need-slice-aggregate-check-small
-slice-aggregate-check-small c = search needs
-
 check-small-requires : tie.Need-check-small-requires
 check-small-requires c κs = let s = c .before .before .before .before .before .before .before .before .before in record { held = s .pre .0; numbered = numbered (c .before .before .before .before); terms-long = s .pre .1; facts-long = s .pre .2 }
-
-enum-known-small : tie.Need-enum-known-small
-enum-known-small c = search needs
-
-enum-told : tie.Need-enum-told
-enum-told c = search needs
-
-slice-aggregate-check-large : tie.Need-slice-aggregate-check-large
-slice-aggregate-check-large c = search needs
 
 check-large-requires : tie.Need-check-large-requires
 check-large-requires c κs =
     let d = c .before .before .before .before .before .before .before .before .before .check-small in
     let s = c .before .before .before .before .before .before .before .before .before .before .before .before .before .before .before .before .before .before .before in
     record { held = s .pre .0; numbered = numbered (c .before .before .before .before .before .before .before .before .before .before .before .before .before .before); terms-long = omega (arith, d .kept .1 .1 .0, s .pre .1); facts-long = omega (arith, d .kept .1 .1 .1 .0, s .pre .2) }
-
-same-length : tie.Need-same-length
-same-length c = search needs
-
-same-length-2 : tie.Need-same-length-2
-same-length-2 c = search needs
 
 returns : tie.Need-returns
 returns c =
@@ -83,16 +62,16 @@ pub check-form-spec : {M : Type 1} → statement M
 check-form-spec =
     tie.close
     (tie.spec
-    slice-aggregate-number-functions
+    (λ c. search needs)
     number-functions-requires
-    slice-aggregate-check-small
+    (λ c. search needs)
     check-small-requires
-    enum-known-small
-    enum-told
-    slice-aggregate-check-large
+    (λ c. search needs)
+    (λ c. search needs)
+    (λ c. search needs)
     check-large-requires
-    same-length
-    same-length-2
+    (λ c. search needs)
+    (λ c. search needs)
     returns
     same-length-3
     same-length-4

@@ -7,19 +7,10 @@ use borrow.Author.Needs.{needs}
 use Rattle.embed.proofs.rulfjen_read.Statement.{statement}
 use Rattle.embed.proofs.rulfjen_read.Tie as tie
 
-read-requires : tie.Need-read-requires
-read-requires c κs = search needs
-
-transfer-requires : tie.Need-transfer-requires
-transfer-requires c κs = search needs
-
-same-length : tie.Need-same-length
-same-length c = search needs
-
 returns : tie.Need-returns
 returns c =
     let x = c .before .before .before .before .read in
     ap ofReading (x .ensures) ∙ transfer-left (transferOf (x .result)) (c .transfer .ensures)
 
 pub rulfjen-read-spec : {M : Type 1} → statement M
-rulfjen-read-spec = tie.close (tie.spec read-requires transfer-requires same-length returns)
+rulfjen-read-spec = tie.close (tie.spec (λ c κs. search needs) (λ c κs. search needs) (λ c. search needs) returns)

@@ -7,19 +7,10 @@ use borrow.Author.Needs.{needs}
 use Rattle.embed.proofs.rulfjen_write.Statement.{statement}
 use Rattle.embed.proofs.rulfjen_write.Tie as tie
 
-write-requires : tie.Need-write-requires
-write-requires c κs = search needs
-
-transfer-requires : tie.Need-transfer-requires
-transfer-requires c κs = search needs
-
-same-length : tie.Need-same-length
-same-length c = search needs
-
 returns : tie.Need-returns
 returns c =
     let x = c .before .before .before .before .write in
     ap ofWriting (x .ensures) ∙ transfer-left (transferOf (x .result)) (c .transfer .ensures)
 
 pub rulfjen-write-spec : {M : Type 1} → statement M
-rulfjen-write-spec = tie.close (tie.spec write-requires transfer-requires same-length returns)
+rulfjen-write-spec = tie.close (tie.spec (λ c κs. search needs) (λ c κs. search needs) (λ c. search needs) returns)

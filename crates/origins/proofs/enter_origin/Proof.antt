@@ -7,7 +7,6 @@ use Rattle.model.specs.Lists.{row}
 use Rattle.rows.specs.Tables.{Rows}
 use Rattle.tables.specs.Rows.{rows}
 use Rattle.tables.proofs.Tables.{rows-length}
-use Rattle.form_functions.specs.Functions.{numberedOf}
 use Rattle.form.proofs.Places.{rule-well-formed}
 use Rattle.facts.specs.Room.{Room}
 use Rattle.outputs.specs.Naming.{held}
@@ -15,47 +14,28 @@ use Rattle.facts.proofs.Rows.{room-same}
 use Rattle.rows.specs.Copies.{argumentsIn}
 use Rattle.disjuncts.proofs.Decoded.{atoms-sound}
 use Rattle.origins.proofs.Entering.{origin-entered, origin-room}
-use Rattle.origins.proofs.Origins.{origin-fits}
 use borrow.Author.Needs.{needs}
 use Rattle.origins.proofs.enter_origin.Statement.{statement}
 use Rattle.origins.proofs.enter_origin.Tie as tie
-
-others-set-requires : tie.Need-others-set-requires
-others-set-requires c κs = search needs
-
-frontier-set-requires : tie.Need-frontier-set-requires
-frontier-set-requires c κs = search needs
-
-cast-origin-numbers : tie.Need-cast-origin-numbers
-cast-origin-numbers c = search needs
 
 origin-numbers-requires : tie.Need-origin-numbers-requires
 origin-numbers-requires c κs =
     let s = c .before .before .before .before .before .before .before in
     let a = s .args in
-    let f : a .n * 10 ≤ length (a .table .now) = origin-fits (numberedOf (a .form .now) (a .i) (a .d)) (argumentsIn (row 10 (a .j) (a .table .now))) (a .table .now) (a .n) (rows 5 (a .m) (a .facts .now)) (s .pre .3 .room) in
+    let f = s .pre .3 .room .kept .fits in
     let h : a .j < a .n = s .pre .1 in
     let b : suc (a .j) * 10 ≤ length (a .table .now) = omega arith in
     (b, s .pre .2)
-
-set-size-requires : tie.Need-set-size-requires
-set-size-requires c κs = search needs
 
 add-constants-requires : tie.Need-add-constants-requires
 add-constants-requires c κs =
     let o = c .before .before .before .before .before in
     let s = o .before .before .before .before .before in
     let a = s .args in
-    origin-room (s .pre .0) (argumentsIn (row 10 (a .j) (a .table .now))) (held (a .table .now) (a .n) (a .facts .now) (a .m)) (s .pre .3 .room) (o .others-set .ensures) (c .set-size .ensures)
-
-body-requires : tie.Need-body-requires
-body-requires c κs = search needs
-
-body-arities-requires : tie.Need-body-arities-requires
-body-arities-requires c κs = search needs
-
-body-count-requires : tie.Need-body-count-requires
-body-count-requires c κs = search needs
+    record {
+      kept = s .pre .3 .room .kept;
+      room = origin-room (s .pre .0) (argumentsIn (row 10 (a .j) (a .table .now))) (held (a .table .now) (a .n) (a .facts .now) (a .m)) (s .pre .3 .room .room) (o .others-set .ensures) (c .set-size .ensures);
+    }
 
 enter-facts-requires : tie.Need-enter-facts-requires
 enter-facts-requires c κs =
@@ -71,14 +51,16 @@ enter-disjunct-requires c κs =
     let s = o .before .before .before .before .before .before in
     let a = s .args in
     let entered =
-    origin-entered (s .pre .0) (a .limit) (argumentsIn (row 10 (a .j) (a .table .now))) (held (a .table .now) (a .n) (a .facts .now) (a .m)) (rows-length 10 (a .n) (a .table .now)) (o .frontier-set .ensures) (o .before .others-set .ensures) (k .before .set-size .ensures) (k .before .before .before .origin-numbers .result) (k .before .before .before .origin-numbers .ensures) (f .before .before .before .before .body .ensures) (f .before .before .before .body-arities .ensures) (f .before .before .body-count .ensures) (k .add-constants .ensures) (f .enter-facts .ensures .0) in
-    (s .pre .0, record { room = room-same (k .add-constants .last .0) (k .add-constants .kept .0) (subst (λ (x : Rows). Room 10 (a .table .now) (x .terms)) (sym entered) (s .pre .3 .room)); kept = f .enter-facts .ensures .1 })
-
-same-length : tie.Need-same-length
-same-length c = search needs
-
-same-length-2 : tie.Need-same-length-2
-same-length-2 c = search needs
+    origin-entered (s .pre .0) (a .limit) (argumentsIn (row 10 (a .j) (a .table .now))) (held (a .table .now) (a .n) (a .facts .now) (a .m)) (rows-length 10 (a .n) (a .table .now)) (o .frontier-set .ensures) (o .before .others-set .ensures) (k .before .set-size .ensures) (k .before .before .before .origin-numbers .result) (k .before .before .before .origin-numbers .ensures) (f .before .before .before .before .body .ensures) (f .before .before .before .body-arities .ensures) (f .before .before .body-count .ensures) (k .add-constants .ensures .rows) (f .enter-facts .ensures .0) in (
+      s .pre .0,
+      record {
+        room = record {
+          kept = k .add-constants .ensures .kept;
+          room = room-same (k .add-constants .last .0) (k .add-constants .kept .0) (subst (λ (x : Rows). Room 12 (a .table .now) (x .terms)) (sym entered) (s .pre .3 .room .room));
+        };
+        kept = f .enter-facts .ensures .1;
+      },
+    )
 
 returns : tie.Need-returns
 returns c =
@@ -89,24 +71,24 @@ returns c =
     let s = o .before .before .before .before .before .before in
     let a = s .args in
     let entered =
-    origin-entered (s .pre .0) (a .limit) (argumentsIn (row 10 (a .j) (a .table .now))) (held (a .table .now) (a .n) (a .facts .now) (a .m)) (rows-length 10 (a .n) (a .table .now)) (o .frontier-set .ensures) (o .before .others-set .ensures) (k .before .set-size .ensures) (k .before .before .before .origin-numbers .result) (k .before .before .before .origin-numbers .ensures) (f .before .before .before .before .body .ensures) (f .before .before .before .body-arities .ensures) (f .before .before .body-count .ensures) (k .add-constants .ensures) (f .enter-facts .ensures .0) in
-    record { rows = e .enter-disjunct .ensures .rows ∙ entered; kept = e .enter-disjunct .ensures .kept }
+    origin-entered (s .pre .0) (a .limit) (argumentsIn (row 10 (a .j) (a .table .now))) (held (a .table .now) (a .n) (a .facts .now) (a .m)) (rows-length 10 (a .n) (a .table .now)) (o .frontier-set .ensures) (o .before .others-set .ensures) (k .before .set-size .ensures) (k .before .before .before .origin-numbers .result) (k .before .before .before .origin-numbers .ensures) (f .before .before .before .before .body .ensures) (f .before .before .before .body-arities .ensures) (f .before .before .body-count .ensures) (k .add-constants .ensures .rows) (f .enter-facts .ensures .0) in
+    record { rows = e .enter-disjunct .ensures .rows ∙ entered; found = e .enter-disjunct .ensures .found; kept = e .enter-disjunct .ensures .kept }
 
 pub enter-origin-spec : {M : Type 1} → statement M
 enter-origin-spec =
     tie.close
     (tie.spec
-    others-set-requires
-    frontier-set-requires
-    cast-origin-numbers
+    (λ c κs. search needs)
+    (λ c κs. search needs)
+    (λ c. search needs)
     origin-numbers-requires
-    set-size-requires
+    (λ c κs. search needs)
     add-constants-requires
-    body-requires
-    body-arities-requires
-    body-count-requires
+    (λ c κs. search needs)
+    (λ c κs. search needs)
+    (λ c κs. search needs)
     enter-facts-requires
     enter-disjunct-requires
-    same-length
-    same-length-2
+    (λ c. search needs)
+    (λ c. search needs)
     returns)

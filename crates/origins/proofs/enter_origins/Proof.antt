@@ -12,6 +12,7 @@ use Rattle.tables.proofs.Tables.{rows-length}
 use Rattle.form_functions.specs.Functions.{places, functionsBefore}
 use Rattle.facts.specs.Room.{Room}
 use Rattle.outputs.specs.Skolem.{numberLimit}
+use Rattle.tables.specs.TermHash.{KeptTerms}
 use Rattle.facts.specs.Hashed.{Kept}
 use Rattle.outputs.specs.Naming.{held, cut}
 use Rattle.facts.proofs.Rows.{room-same}
@@ -30,6 +31,7 @@ Inv-loop form before table₀ n facts₀ m limit a₀ b₀ j₀ table facts a b 
     × (length facts ≡ length facts₀)
     × Stays (rows 10 n table₀) table a
     × (cut limit (enterOrigins (disjunctsIn form) (drop j (rows 10 n table₀)) (held table a facts b)) ≡ cut limit (originsIn form table₀ n facts₀ m))
+    × KeptTerms table a
 
 abbrev μ-loop : tie.MeasureT-loop
 μ-loop form before table₀ n facts₀ m limit a₀ b₀ j₀ table facts a b j = n - j
@@ -38,7 +40,7 @@ loop-holds : tie.Need-loop-holds Inv-loop μ-loop
 loop-holds c =
     let s = c .before .before .before .before in
     let a = s .args in
-    (omega arith, s .pre .2 .kept, refl, refl, stays-start (a .n) (a .table .now), refl)
+    (omega arith, s .pre .2 .kept, refl, refl, stays-start (a .n) (a .table .now), refl, s .pre .2 .room .kept)
 
 origin-of-requires : tie.Need-origin-of-requires Inv-loop μ-loop
 origin-of-requires c κs =
@@ -49,8 +51,8 @@ origin-of-requires c κs =
     let size = rows-length 10 (a .n) (a .table .now) in
     let k : l .loop .j < length (rows 10 (a .n) (a .table .now)) = subst (λ (x : ℕ). l .loop .j < x) (sym size) h in
     let there = stays-row (l .loop .inv .4) (l .loop .j) k in
-    let room : Room 10 (a .table .now) (originStep (disjunctsIn (a .form .now)) (getD (rows 10 (a .n) (a .table .now)) (l .loop .j) []) (held (l .loop .table) (l .loop .a) (l .loop .facts) (l .loop .b)) .terms) × (length (rows 10 (l .loop .a) (l .loop .table)) ≤ length ((originsIn (a .form .now) (a .table .now) (a .n) (a .facts .now) (a .m)) .terms)) =
-    origins-room (a .limit) (disjunctsIn (a .form .now)) (rows 10 (a .n) (a .table .now)) (l .loop .j) k (held (l .loop .table) (l .loop .a) (l .loop .facts) (l .loop .b)) (originsIn (a .form .now) (a .table .now) (a .n) (a .facts .now) (a .m)) (l .loop .inv .5) (s .pre .2 .room) in
+    let room : Room 12 (a .table .now) (originStep (disjunctsIn (a .form .now)) (getD (rows 10 (a .n) (a .table .now)) (l .loop .j) []) (held (l .loop .table) (l .loop .a) (l .loop .facts) (l .loop .b)) .terms) × (length (rows 10 (l .loop .a) (l .loop .table)) ≤ length ((originsIn (a .form .now) (a .table .now) (a .n) (a .facts .now) (a .m)) .terms)) =
+    origins-room (a .limit) (disjunctsIn (a .form .now)) (rows 10 (a .n) (a .table .now)) (l .loop .j) k (held (l .loop .table) (l .loop .a) (l .loop .facts) (l .loop .b)) (originsIn (a .form .now) (a .table .now) (a .n) (a .facts .now) (a .m)) (l .loop .inv .5) (s .pre .2 .room .room) in
     let count = rows-length 10 (l .loop .a) (l .loop .table) in
     let most : length ((originsIn (a .form .now) (a .table .now) (a .n) (a .facts .now) (a .m)) .terms) < numberLimit = s .pre .1 in
     let less : l .loop .a < numberLimit = let b = room .1 in omega arith in (
@@ -62,7 +64,7 @@ origin-of-requires c κs =
         function = subst (λ (x : ℕ). x ≤ functionsBefore (a .form .now) (places (a .form .now))) (sym (stays-function (a .n) (a .table .now) (l .loop .inv .4) (l .loop .j) h)) (s .pre .0 .functions (l .loop .j) h);
       },
       record {
-        room = room-same (l .loop .table) (l .loop .inv .2) (subst (λ (r : List ℕ). Room 10 (a .table .now) (originStep (disjunctsIn (a .form .now)) r (held (l .loop .table) (l .loop .a) (l .loop .facts) (l .loop .b)) .terms)) (sym (there .0)) (room .0));
+        room = record { kept = l .loop .inv .6; room = room-same (l .loop .table) (l .loop .inv .2) (subst (λ (r : List ℕ). Room 12 (a .table .now) (originStep (disjunctsIn (a .form .now)) r (held (l .loop .table) (l .loop .a) (l .loop .facts) (l .loop .b)) .terms)) (sym (there .0)) (room .0)) };
         kept = l .loop .inv .1;
       },
     )
@@ -89,6 +91,7 @@ loop-again c =
       stays-more (l .loop .inv .4) (a .limit) (disjunctsIn (a .form .now)) (row 10 (l .loop .j) (l .loop .table)) (held (l .loop .table) (l .loop .a) (l .loop .facts) (l .loop .b)) refl (d .last .1 .1 .1 .0) (d .result .terms) (ap (λ (r : Rows). r .terms) (d .ensures .rows)),
       origins-more (a .limit) (disjunctsIn (a .form .now)) (rows 10 (a .n) (a .table .now)) (l .loop .j) k (held (l .loop .table) (l .loop .a) (l .loop .facts) (l .loop .b)) (held (d .last .1 .1 .1 .0) (d .result .terms) (d .last .1 .1 .1 .1 .1 .0) (d .result .facts)) (d .ensures .rows ∙ ap (λ (r : List ℕ). cut (a .limit) (originStep (disjunctsIn (a .form .now)) r (held (l .loop .table) (l .loop .a) (l .loop .facts) (l .loop .b)))) (there .0))
           ∙ l .loop .inv .5,
+      d .ensures .found,
     )
 
 same-length : tie.Need-same-length Inv-loop μ-loop
@@ -105,7 +108,7 @@ returns c =
     let z = rows-length 5 (l .loop .b) (l .loop .facts) in
     let w = kept-within (l .loop .inv .1) in
     let e = c .loop-test .left in
-    record { rows = origins-none (a .limit) (disjunctsIn (a .form .now)) (rows 10 (a .n) (a .table .now)) (l .loop .j) (omega arith) (held (l .loop .table) (l .loop .a) (l .loop .facts) (l .loop .b)) (omega arith) ∙ l .loop .inv .5; kept = l .loop .inv .1 }
+    record { rows = origins-none (a .limit) (disjunctsIn (a .form .now)) (rows 10 (a .n) (a .table .now)) (l .loop .j) (omega arith) (held (l .loop .table) (l .loop .a) (l .loop .facts) (l .loop .b)) (omega arith) ∙ l .loop .inv .5; found = l .loop .inv .6; kept = l .loop .inv .1 }
 
 pub enter-origins-spec : {M : Type 1} → statement M
 enter-origins-spec =

@@ -11,9 +11,6 @@ returns : tie.Need-returns
 unfolding stepOf
 returns c = sym (ap (stepOf value) (byte-ended _ _ _ _ _ (c .if1 .taken)))
 
-shared-slice-read-b : tie.Need-shared-slice-read-b
-shared-slice-read-b c = search needs
-
 returns-2 : tie.Need-returns-2
 unfolding stepOf
 returns-2 c = sym (ap (stepOf value) (byte-below _ _ _ _ _ (omega arith) (c .if2 .taken)))
@@ -22,12 +19,9 @@ returns-3 : tie.Need-returns-3
 unfolding stepOf
 returns-3 c = sym (ap (stepOf value) (byte-above _ _ _ _ _ (omega arith) (omega arith) (c .if3 .taken)))
 
-add-t7 : tie.Need-add-t7
-add-t7 c = search needs
-
 returns-4 : tie.Need-returns-4
 unfolding stepOf
 returns-4 c = sym (ap (stepOf value) (byte-within _ _ _ _ _ (omega arith) (omega arith) (omega arith)))
 
 pub byte-spec : {M : Type 1} → statement M
-byte-spec = tie.close (tie.spec returns shared-slice-read-b returns-2 returns-3 add-t7 returns-4)
+byte-spec = tie.close (tie.spec returns (λ c. search needs) returns-2 returns-3 (λ c. search needs) returns-4)

@@ -4,12 +4,9 @@ use Rattle.model.specs.Format.{variable}
 use Rattle.parsing.proofs.variable.Statement.{statement}
 use Rattle.parsing.proofs.variable.Tie as tie
 
-byte-requires : tie.Need-byte-requires
-byte-requires c κs = search needs
-
 returns : tie.Need-returns
 unfolding variable
 returns c = c .byte .ensures
 
 pub variable-spec : {M : Type 1} → statement M
-variable-spec = tie.close (tie.spec byte-requires returns)
+variable-spec = tie.close (tie.spec (λ c κs. search needs) returns)

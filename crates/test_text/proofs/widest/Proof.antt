@@ -3,7 +3,7 @@ use mathlib.Core.Path.{refl}
 use lib.Dec.{lit≤}
 use Rattle.model.specs.Lists.{collect, row}
 use Rattle.model.specs.Text.{line, lines, decimal, digits, termNumbers, factNumbers, records, text}
-use Rattle.triggers.specs.Match.{allBelow}
+use Rattle.laws_triggers.specs.Match.{allBelow}
 use Rattle.test_text.proofs.Tests.{termsLegible, legible-terms, factsLegible, legible-facts}
 use borrow.Author.Needs.{needs}
 use Rattle.test_text.proofs.widest.Statement.{statement}

@@ -1,7 +1,7 @@
 -- `test_triggers::other_variables` is safe: its body and facts are as the search wants them. Assumes nothing.
 use mathlib.Core.Path.{refl}
-use Rattle.triggers.specs.Match.{allBelow}
-use Rattle.triggers.proofs.Small.{isSmall, small}
+use Rattle.laws_triggers.specs.Match.{allBelow}
+use Rattle.laws_triggers.proofs.Small.{isSmall, small}
 use borrow.Author.Needs.{needs}
 use Rattle.test_triggers.proofs.other_variables.Statement.{statement}
 use Rattle.test_triggers.proofs.other_variables.Tie as tie

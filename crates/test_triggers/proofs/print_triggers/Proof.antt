@@ -1,67 +1,77 @@
--- `test_triggers::print_triggers` is safe and ends: the measure is how many triggers are left. Assumes nothing.
-use mathlib.Core.Path.{_≡_, sym, ap, subst}
-use mathlib.Core.List.{List}
-use Prim.Native.Nat.{ℕ, _≤_}
+-- `test_triggers::print_triggers` is safe and ends: less is ahead each turn. Assumes nothing.
+use mathlib.Core.Path.{sym, subst}
+use mathlib.Core.List.{[], _∷_}
 use native.Mathlib.Omega.{arith}
+use lib.ListN.{replicate}
 use borrow.Author.Needs.{needs}
 use borrow.Author.Tests.{not-false}
-use lib.ListN.{length, getD}
-use Rattle.triggers.specs.Match.{Body}
-use Rattle.triggers.specs.Next.{triggersFrom, after}
-use Rattle.laws.proofs.Places.{zeros-at}
-use Rattle.triggers.proofs.Search.{after-most}
-use Rattle.triggers.proofs.Entering.{indexed-zeros}
+use Rattle.laws_triggers.specs.Match.{Body, Searchable}
+use Rattle.laws_triggers.specs.Next.{after}
+use Rattle.fact_index.proofs.Entering.{indexed-zeros}
+use Rattle.cursor.specs.Plan.{bodyOf}
+use Rattle.cursor.proofs.Plans.{all-planned-body}
+use Rattle.new_triggers.specs.Walk.{Walks, aheadIn}
 use Rattle.test_triggers.proofs.print_triggers.Statement.{statement}
 use Rattle.test_triggers.proofs.print_triggers.Tie as tie
 
 abbrev Inv-loop : tie.InvT-loop
-Inv-loop body arities atoms facts count terms index start₀ start = (i : ℕ) → getD start i 0 ≤ terms
+Inv-loop body atoms facts count terms index plan over at₀ at = Walks body plan over at facts index
 
 abbrev μ-loop : tie.MeasureT-loop
-μ-loop body arities atoms facts count terms index start₀ start = length (triggersFrom (record { atoms = body; arities = arities; count = atoms }) facts count terms start)
+μ-loop body atoms facts count terms index plan over at₀ at = aheadIn (over .terms) (at .streams)
 
 extend-requires : tie.Need-extend-requires Inv-loop μ-loop
 extend-requires c κs =
     let s = c .before .before in
-    let a = s .args in
-    (indexed-zeros (a .facts .now) 2600 (omega arith), omega arith, omega arith, s .pre .0 .room, search needs)
+    (indexed-zeros (s .args .facts .now) 2600 (omega arith), omega arith, record { few = omega arith; rows = s .pre .0 .room; room = search needs })
+
+searchable : (p : tie.After-plan-of-all Inv-loop μ-loop)
+    → Searchable (bodyOf (p .before .before .before .before .before .args .body) (p .plan-of-all .result)) (p .before .before .before .before .before .args .facts .now)
+    (p .before .before .before .before .before .args .count) (p .before .before .before .before .before .args .terms)
+searchable p =
+    let s = p .before .before .before .before .before in
+    subst (λ (b : Body). Searchable b (s .args .facts .now) (s .args .count) (s .args .terms)) (sym (all-planned-body (p .plan-of-all .ensures))) (s .pre .0)
+
+begin-requires : tie.Need-begin-requires Inv-loop μ-loop
+begin-requires c κs =
+    record {
+      searchable = searchable (c .before);
+      planned = c .before .plan-of-all .ensures .planned;
+      indexed = c .before .before .before .extend .ensures;
+      apart = λ i h xs f g l. absurd (omega arith);
+    }
 
 loop-holds : tie.Need-loop-holds Inv-loop μ-loop
-loop-holds c = λ i. let e = zeros-at 8 i in omega arith
+loop-holds c =
+    record {
+      searchable = searchable (c .before .before);
+      planned = c .before .before .plan-of-all .ensures .planned;
+      indexed = c .before .before .before .before .extend .ensures;
+      given = [];
+      start = replicate 8 0;
+      walked = c .begin .ensures;
+    }
 
-next-trigger-requires : tie.Need-next-trigger-requires Inv-loop μ-loop
-next-trigger-requires c κs =
-    let s = c .before .before .before .before .before .before in
-    (s .pre .0, c .before .loop .inv, c .before .before .before .extend .ensures)
-
-behind-requires : tie.Need-behind-requires Inv-loop μ-loop
-behind-requires c κs =
-    let found = c .before .before .before .before .next-trigger in
-    let s = c .before .before .before .before .before .before .before .before .before .before .before in
-    let x = found .ensures .within (not-false (found .result .found) (c .before .before .if1 .left)) 7 in
-    let f = s .fits .terms in
-    (omega arith, omega arith)
+next-requires : tie.Need-next-requires Inv-loop μ-loop
+next-requires c κs = c .before .loop .inv
 
 loop-less : tie.Need-loop-less Inv-loop μ-loop
-unfolding after
 loop-less c =
-    let s = c .before .before .before .before .before .before .before .before .before .before .before .before in
-    let a = s .args in
-    let b : Body = record { atoms = a .body; arities = a .arities; count = a .atoms } in
-    let found = c .before .before .before .before .before .next-trigger in
-    let xs = found .result .assignment in
-    let e = ap length (found .ensures .first (not-false (found .result .found) (c .before .before .before .if1 .left))) in
-    let next : c .behind .result ≡ after xs = c .behind .ensures in
-    let d : length (triggersFrom b (a .facts .now) (a .count) (a .terms) (c .behind .result)) ≡ length (triggersFrom b (a .facts .now) (a .count) (a .terms) (after xs))
-    = ap (λ (ys : List ℕ). length (triggersFrom b (a .facts .now) (a .count) (a .terms) ys)) next in
-    omega arith
+    let step = c .before .before .before .before .before .next in
+    step .ensures .fewer (not-false (step .result .found) (c .before .before .before .if1 .left))
 
 loop-again : tie.Need-loop-again Inv-loop μ-loop
 loop-again c =
-    let s = c .before .before .before .before .before .before .before .before .before .before .before .before in
-    let found = c .before .before .before .before .before .next-trigger in
-    let xs = found .result .assignment in
-    λ i. subst (λ (ys : List ℕ). getD ys i 0 ≤ s .args .terms) (sym (c .behind .ensures)) (after-most (s .args .terms) xs (found .ensures .within (not-false (found .result .found) (c .before .before .before .if1 .left))) i)
+    let step = c .before .before .before .before .before .next in
+    let w = c .before .before .before .before .before .before .before .loop .inv in
+    record {
+      searchable = w .searchable;
+      planned = w .planned;
+      indexed = w .indexed;
+      given = step .result .trigger ∷ w .given;
+      start = after (step .result .trigger);
+      walked = step .ensures .onward (not-false (step .result .found) (c .before .before .before .if1 .left)) (w .given) (w .start) (w .walked);
+    }
 
 pub print-triggers-spec : {M : Type 1} → statement M
 print-triggers-spec =
@@ -71,11 +81,13 @@ print-triggers-spec =
     μ-loop
     (λ c. search needs)
     extend-requires
+    (λ c κs. search needs)
+    (λ c. search needs)
+    begin-requires
     loop-holds
     (λ c. search needs)
-    next-trigger-requires
+    next-requires
     (λ c. tt)
     (λ c κs. tt)
-    behind-requires
     loop-less
     loop-again)

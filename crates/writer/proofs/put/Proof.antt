@@ -11,18 +11,6 @@ returns c = (writes-below _ _ _ _ _ _ (c .if1 .taken) _, took-bad _ _ _ _ _ _)
 returns-2 : tie.Need-returns-2
 returns-2 c = (writes-above _ _ _ _ _ _ (omega arith) (c .if2 .taken) _, took-bad _ _ _ _ _ _)
 
-cast-b : tie.Need-cast-b
-cast-b c = search needs
-
-slice-write-out : tie.Need-slice-write-out
-slice-write-out c = search needs
-
-add-t11 : tie.Need-add-t11
-add-t11 c = search needs
-
-same-length : tie.Need-same-length
-same-length c = search needs
-
 returns-3 : tie.Need-returns-3
 returns-3 c =
     let h = c .before .if1 .left in
@@ -31,4 +19,4 @@ returns-3 c =
 
 pub put-spec : {M : Type 1} → statement M
 put-spec =
-    tie.close (tie.spec returns returns-2 cast-b slice-write-out add-t11 same-length returns-3)
+    tie.close (tie.spec returns returns-2 (λ c. search needs) (λ c. search needs) (λ c. search needs) (λ c. search needs) returns-3)

@@ -9,15 +9,6 @@ use borrow.Author.Needs.{needs}
 use Rattle.form.proofs.atoms.arity_at.Statement.{statement}
 use Rattle.form.proofs.atoms.arity_at.Tie as tie
 
-mul-wide : tie.Need-mul-wide
-mul-wide c = search needs
-
-shared-slice-read-wide : tie.Need-shared-slice-read-wide
-shared-slice-read-wide c = search needs
-
-wide-requires : tie.Need-wide-requires
-wide-requires c κs = search needs
-
 arity-requires : tie.Need-arity-requires
 arity-requires c κs =
     let s = c .before .before .before in
@@ -33,4 +24,4 @@ returns c =
 
 pub arity-at-spec : {M : Type 1} → statement M
 arity-at-spec =
-    tie.close (tie.spec mul-wide shared-slice-read-wide wide-requires arity-requires returns)
+    tie.close (tie.spec (λ c. search needs) (λ c. search needs) (λ c κs. search needs) arity-requires returns)

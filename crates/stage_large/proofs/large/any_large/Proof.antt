@@ -1,137 +1,116 @@
--- `stage_large::large::any_large` meets its contract. The loop's invariant: what is left of the triggers decides, and the sizes were
--- found. Each turn finds one more trigger, or ends the search. Assumes nothing.
+-- `stage_large::large::any_large` meets its contract. The loop's invariant: what is left of the triggers decides, and the sizes were found.
+-- Each turn less is ahead. Assumes nothing.
 use mathlib.Core.Path.{_≡_, refl, sym, ap, _∙_, subst}
-use mathlib.Core.Bool.{true, false}
-use mathlib.Core.List.{List}
-use Prim.Native.Nat.{ℕ, _+_, _≤_}
+use mathlib.Core.List.{[]}
 use native.Mathlib.Omega.{arith}
-use lib.ListN.{length, getD}
+use borrow.Author.Tests.{not-true, not-false}
+use lib.ListN.{length, replicate}
 use Rattle.model.specs.Lists.{any}
-use Rattle.laws.proofs.Bools.{not-both}
-use Rattle.triggers.specs.Match.{Body}
-use Rattle.new_triggers.specs.Unhandled.{unhandledFrom, Streaming}
-use Rattle.laws.proofs.Places.{zeros-at}
-use Rattle.new_triggers.proofs.Onward.{next-is, streaming-behind}
+use Rattle.laws_triggers.specs.Match.{Body, Searchable}
+use Rattle.cursor.specs.Plan.{bodyOf}
+use Rattle.cursor.proofs.Plans.{all-planned-body}
+use Rattle.new_triggers.specs.Unhandled.{unhandledFrom, Apart}
+use Rattle.new_triggers.specs.Walk.{aheadIn}
 use Rattle.stage_large.specs.Large.{large, Measured}
-use Rattle.stage_large.proofs.Triggers.{behind-most}
-use Rattle.stage_large.proofs.Steps.{turn, next-passes, next-fails, next-none, next-fewer, large-yes, large-no}
+use Rattle.stage_large.proofs.Steps.{Seeking, seeking-none, seeking-passes, seeking-fails, seeking-within, large-yes, large-no}
 use Rattle.stage_large.proofs.large.any_large.Statement.{statement}
 use Rattle.stage_large.proofs.large.any_large.Tie as tie
 
 abbrev Inv-loop : tie.InvT-loop
-Inv-loop body arities atoms set terms facts index sizes₀ start₀ n m old streams₀ going₀ sizes start streams going =
-    ((i : ℕ) → getD start i 0 ≤ n)
-    × Streaming (record { atoms = body; arities = arities; count = atoms }) facts m old n start streams
-    × (any (large terms set) (unhandledFrom (record { atoms = body; arities = arities; count = atoms }) facts m old n start₀)
-    ≡ any (large terms set) (unhandledFrom (record { atoms = body; arities = arities; count = atoms }) facts m old n start))
-    × (going ≡ false → any (large terms set) (unhandledFrom (record { atoms = body; arities = arities; count = atoms }) facts m old n start) ≡ false)
+Inv-loop body atoms set terms facts index sizes₀ n plan over at₀ sizes at =
+    Seeking body plan over facts (large terms set) (any (large terms set) (unhandledFrom (record { atoms = body; arities = plan .arities; count = plan .atoms }) facts (over .facts) (over .old) (over .terms) (replicate 8 0))) at
     × Measured terms sizes
     × (length sizes ≡ length sizes₀)
 
 abbrev μ-loop : tie.MeasureT-loop
-μ-loop body arities atoms set terms facts index sizes₀ start₀ n m old streams₀ going₀ sizes start streams going =
-    length (unhandledFrom (record { atoms = body; arities = arities; count = atoms }) facts m old n start) + turn going
+μ-loop body atoms set terms facts index sizes₀ n plan over at₀ sizes at = aheadIn (over .terms) (at .streams)
 
-cast-streams : tie.Need-cast-streams Inv-loop μ-loop
-cast-streams c = omega arith
+-- the triggers by the plan are those of the body
+same-triggers : (c : tie.After-plan-of-all Inv-loop μ-loop)
+    → any (large (c .before .before .before .before .before .args .terms .now) (c .before .before .before .before .before .args .set))
+    (unhandledFrom (bodyOf (c .before .before .before .before .before .args .body) (c .plan-of-all .result)) (c .before .before .before .before .before .args .facts .now) (c .before .before .before .before .before .args .counts .facts) (c .before .before .before .before .before .args .counts .old) (c .before .before .before .before .before .args .counts .terms) (replicate 8 0))
+    ≡ any (large (c .before .before .before .before .before .args .terms .now) (c .before .before .before .before .before .args .set))
+    (unhandledFrom (record { atoms = c .before .before .before .before .before .args .body; arities = c .before .before .before .before .before .args .arities; count = c .before .before .before .before .before .args .atoms }) (c .before .before .before .before .before .args .facts .now) (c .before .before .before .before .before .args .counts .facts) (c .before .before .before .before .before .args .counts .old) (c .before .before .before .before .before .args .counts .terms) (replicate 8 0))
+same-triggers c =
+    let a = c .before .before .before .before .before .args in
+    ap (λ (b : Body). any (large (a .terms .now) (a .set)) (unhandledFrom b (a .facts .now) (a .counts .facts) (a .counts .old) (a .counts .terms) (replicate 8 0))) (all-planned-body (c .plan-of-all .ensures))
 
-streams-requires : tie.Need-streams-requires Inv-loop μ-loop
-streams-requires c κs = let p = c .before .before .before .before .pre in (p .searchable, p .indexed, p .apart)
+begin-requires : tie.Need-begin-requires Inv-loop μ-loop
+begin-requires c κs =
+    let s = c .before .before .before .before .before in
+    let a = s .args in
+    let p = c .plan-of-all .ensures in
+    let back = sym (all-planned-body p) in
+    record {
+      searchable = subst (λ (b : Body). Searchable b (a .facts .now) (a .counts .facts) (a .counts .terms)) back (s .pre .searchable);
+      planned = p .planned;
+      indexed = s .pre .indexed;
+      apart = subst (λ (b : Body). Apart b (a .facts .now) (a .counts .facts) (a .counts .old)) back (s .pre .apart);
+    }
 
 loop-holds : tie.Need-loop-holds Inv-loop μ-loop
 loop-holds c =
-    let s = c .before .before .before .before .before in
-    ((λ i. subst (λ (k : ℕ). k ≤ s .args .counts .terms) (sym (zeros-at 8 i)) (omega arith)), c .streams .ensures, refl, (λ e. not-both true refl e), s .pre .measured, refl)
+    let s = c .before .before .before .before .before .before in
+    (record { given = []; start = replicate 8 0; walked = c .begin .ensures; decides = refl }, s .pre .measured, refl)
 
-cast-next-unhandled : tie.Need-cast-next-unhandled Inv-loop μ-loop
-cast-next-unhandled c = omega arith
-
-next-unhandled-requires : tie.Need-next-unhandled-requires Inv-loop μ-loop
-next-unhandled-requires c κs =
-    let l = c .before in
-    let p = l .before .before .before .before .before .before .pre in
-    (p .searchable, p .indexed, l .loop .inv .0, l .loop .inv .1)
-
-places-requires : tie.Need-places-requires Inv-loop μ-loop
-places-requires c κs =
-    let t = c .before in
-    let l = t .before .before .before .before in
-    (l .before .before .before .before .before .before .pre .ordered, t .before .before .next-unhandled .ensures .0 .within (t .if1 .taken), l .loop .inv .4)
-
-same-length : tie.Need-same-length Inv-loop μ-loop
-same-length c =
-    let l = c .before .before .before .before .before .before .before .before .before in
-    c .before .before .before .places .kept .1 .1 .1 .1 .0 ∙ l .loop .inv .5
+next-requires : tie.Need-next-requires Inv-loop μ-loop
+next-requires c κs =
+    let l = c in
+    let s = c .before .before .before .before .before .before .before in
+    let a = s .args in
+    let p = c .before .before .plan-of-all .ensures in
+    record {
+      searchable = subst (λ (b : Body). Searchable b (a .facts .now) (a .counts .facts) (a .counts .terms)) (sym (all-planned-body p)) (s .pre .searchable);
+      planned = p .planned;
+      indexed = s .pre .indexed;
+      given = l .loop .inv .0 .given;
+      start = l .loop .inv .0 .start;
+      walked = l .loop .inv .0 .walked;
+    }
 
 returns : tie.Need-returns Inv-loop μ-loop
 returns c =
-    let t = c .before .before .before .before .before in
-    let n = t .before .before .next-unhandled in
-    let l = t .before .before .before .before in
-    let a = l .before .before .before .before .before .before .args in
-    let p = c .before .before .before .places in (
-      sym
-          (l .loop .inv .2
-          ∙ next-passes (n .ensures .0) (large (a .terms .now) (a .set)) (t .if1 .taken)
-          (large-yes (a .terms .now) (a .set) (n .result .assignment) (p .result) (p .ensures .0) (c .if2 .taken))),
-      p .ensures .1,
-    )
+    let l = c .before .before .before in
+    let s = c .before .before .before .before .before .before .before .before .before .before in
+    let p = c .before .before .before .before .before .plan-of-all .ensures in
+    let n = c .before .before .next in
+    (sym (seeking-none (l .loop .inv .0) (p .every) (n .ensures) (not-true (n .result .found) (c .if1 .taken))) ∙ same-triggers (c .before .before .before .before .before), l .loop .inv .1)
 
-behind-requires : tie.Need-behind-requires Inv-loop μ-loop
-behind-requires c κs =
-    let t = c .before .before .before .before .before in
-    let s = t .before .before .before .before .before .before .before .before .before .before in
-    let w = t .before .before .next-unhandled .ensures .0 .within (t .if1 .taken) 7 in
-    (omega arith, omega (arith, s .pre .few))
+places-requires : tie.Need-places-requires Inv-loop μ-loop
+places-requires c κs =
+    let l = c .before .before .before .before .before in
+    let s = c .before .before .before .before .before .before .before .before .before .before .before .before in
+    let p = c .before .before .before .before .before .before .before .plan-of-all .ensures in
+    let n = c .before .before .before .before .next in
+    (s .pre .ordered, seeking-within (l .loop .inv .0) (p .every) (n .ensures) (not-false (n .result .found) (c .before .before .if1 .left)), l .loop .inv .1)
+
+returns-2 : tie.Need-returns-2 Inv-loop μ-loop
+returns-2 c =
+    let l = c .before .before .before .before .before .before .before .before .before in
+    let a = c .before .before .before .before .before .before .before .before .before .before .before .before .before .before .before .before .args in
+    let p = c .before .before .before .before .before .before .before .before .before .before .before .plan-of-all .ensures in
+    let n = c .before .before .before .before .before .before .before .before .next in
+    let f = not-false (n .result .found) (c .before .before .before .before .before .before .if1 .left) in
+    let q = c .before .before .before .places in
+    (sym (seeking-passes (l .loop .inv .0) (p .every) (n .ensures) f (large-yes (a .terms .now) (a .set) (n .result .trigger) (q .result) (q .ensures .0) (c .if2 .taken))) ∙ same-triggers (c .before .before .before .before .before .before .before .before .before .before .before), q .ensures .1)
 
 loop-less : tie.Need-loop-less Inv-loop μ-loop
 loop-less c =
-    let t = c .before .before .before .before .before .before .before in
-    let n = t .before .before .next-unhandled in
-    let l = t .before .before .before .before in
-    let a = l .before .before .before .before .before .before .args in
-    let b : Body = record { atoms = a .body; arities = a .arities; count = a .atoms } in
-    let f = next-fewer (n .ensures .0) (t .if1 .taken) in
-    let e = ap (λ (ys : List ℕ). length (unhandledFrom b (a .facts .now) (a .counts .facts) (a .counts .old) (a .counts .terms) ys)) (c .before .behind .ensures) in
-    omega arith
+    let n = c .before .before .before .before .before .before .before .before .before .next in
+    n .ensures .fewer (not-false (n .result .found) (c .before .before .before .before .before .before .before .if1 .left))
 
 loop-again : tie.Need-loop-again Inv-loop μ-loop
 loop-again c =
-    let d = c .before in
-    let t = d .before .before .before .before .before .before in
-    let n = t .before .before .next-unhandled in
-    let l = t .before .before .before .before in
-    let a = l .before .before .before .before .before .before .args in
-    let b : Body = record { atoms = a .body; arities = a .arities; count = a .atoms } in
-    let long = next-is (n .ensures .1 .size) (n .ensures .0) (t .if1 .taken) .0 in
-    let p = d .before .before .before .before .places in
-    let failed = large-no (a .terms .now) (a .set) (n .result .assignment) (p .result) (p .ensures .0) (d .before .if2 .left) in (
-      (λ i. subst (λ (ys : List ℕ). getD ys i 0 ≤ a .counts .terms) (sym (d .behind .ensures)) (behind-most (n .result .assignment) (a .counts .terms) long (n .ensures .0 .within (t .if1 .taken)) i)),
-      subst (λ (ys : List ℕ). Streaming b (a .facts .now) (a .counts .facts) (a .counts .old) (a .counts .terms) ys (n .result .streams)) (sym (d .behind .ensures))
-          (streaming-behind (n .ensures .1) (n .ensures .0) (t .if1 .taken) 7 (omega arith)),
-      l .loop .inv .2
-          ∙ next-fails (n .ensures .0) (large (a .terms .now) (a .set)) (t .if1 .taken) failed
-          ∙ ap (λ (ys : List ℕ). any (large (a .terms .now) (a .set)) (unhandledFrom b (a .facts .now) (a .counts .facts) (a .counts .old) (a .counts .terms) ys)) (sym (d .behind .ensures)),
-      (λ e. not-both (l .loop .going) (t .before .before .before .loop-test .taken) e),
-      p .ensures .1,
-      p .kept .1 .1 .1 .1 .0 ∙ l .loop .inv .5,
+    let l = c .before .before .before .before .before .before .before .before .before .before in
+    let a = c .before .before .before .before .before .before .before .before .before .before .before .before .before .before .before .before .before .args in
+    let p = c .before .before .before .before .before .before .before .before .before .before .before .before .plan-of-all .ensures in
+    let n = c .before .before .before .before .before .before .before .before .before .next in
+    let f = not-false (n .result .found) (c .before .before .before .before .before .before .before .if1 .left) in
+    let q = c .before .before .before .before .places in (
+      seeking-fails (l .loop .inv .0) (p .every) (n .ensures) f (large-no (a .terms .now) (a .set) (n .result .trigger) (q .result) (q .ensures .0) (c .before .if2 .left)),
+      q .ensures .1,
+      q .kept .1 .1 .1 .1 .0 ∙ l .loop .inv .2,
     )
-
-loop-less-2 : tie.Need-loop-less-2 Inv-loop μ-loop
-loop-less-2 c = let e = ap turn (c .before .before .before .loop-test .taken) in omega arith
-
-loop-again-2 : tie.Need-loop-again-2 Inv-loop μ-loop
-loop-again-2 c =
-    let n = c .before .before .next-unhandled in
-    let l = c .before .before .before .before in
-    let a = l .before .before .before .before .before .before .args in
-    (l .loop .inv .0, l .loop .inv .1, l .loop .inv .2, (λ e. next-none (n .ensures .0) (large (a .terms .now) (a .set)) (c .if1 .left)), l .loop .inv .4, l .loop .inv .5)
-
-same-length-2 : tie.Need-same-length-2 Inv-loop μ-loop
-same-length-2 c = c .before .loop .inv .5
-
-returns-2 : tie.Need-returns-2 Inv-loop μ-loop
-returns-2 c = let l = c .before in (sym (l .loop .inv .2 ∙ l .loop .inv .3 (c .loop-test .left)), l .loop .inv .4)
 
 pub any-large-spec : {M : Type 1} → statement M
 any-large-spec =
@@ -139,18 +118,15 @@ any-large-spec =
     (tie.spec
     Inv-loop
     μ-loop
-    cast-streams
-    streams-requires
+    (λ c κs. c .before .before .before .before .pre .searchable .body)
+    (λ c. omega (arith, c .before .before .before .before .before .pre .few))
+    begin-requires
     loop-holds
-    cast-next-unhandled
-    next-unhandled-requires
-    places-requires
-    same-length
+    next-requires
+    (λ c. c .before .before .before .loop .inv .2)
     returns
-    behind-requires
+    places-requires
+    (λ c. c .before .before .before .places .kept .1 .1 .1 .1 .0 ∙ c .before .before .before .before .before .before .before .before .before .loop .inv .2)
+    returns-2
     loop-less
-    loop-again
-    loop-less-2
-    loop-again-2
-    same-length-2
-    returns-2)
+    loop-again)

@@ -17,38 +17,8 @@ Inv-loop terms i bounds arity sum₀ j₀ sum j =
 abbrev μ-loop : tie.MeasureT-loop
 μ-loop terms i bounds arity sum₀ j₀ sum j = arity - j
 
-mul-arity : tie.Need-mul-arity Inv-loop μ-loop
-mul-arity c = omega arith
-
-add-arity : tie.Need-add-arity Inv-loop μ-loop
-add-arity c = omega arith
-
-mul-arity-2 : tie.Need-mul-arity-2 Inv-loop μ-loop
-mul-arity-2 c = omega arith
-
-shared-slice-read-arity : tie.Need-shared-slice-read-arity Inv-loop μ-loop
-shared-slice-read-arity c = omega arith
-
-cast-arity : tie.Need-cast-arity Inv-loop μ-loop
-cast-arity c = omega arith
-
 loop-holds : tie.Need-loop-holds Inv-loop μ-loop
 loop-holds c = (refl, omega arith, omega arith, omega arith)
-
-mul-sum : tie.Need-mul-sum Inv-loop μ-loop
-mul-sum c = omega arith
-
-add-sum : tie.Need-add-sum Inv-loop μ-loop
-add-sum c = omega arith
-
-add-sum-2 : tie.Need-add-sum-2 Inv-loop μ-loop
-add-sum-2 c = omega arith
-
-mul-sum-2 : tie.Need-mul-sum-2 Inv-loop μ-loop
-mul-sum-2 c = omega arith
-
-shared-slice-read-sum : tie.Need-shared-slice-read-sum Inv-loop μ-loop
-shared-slice-read-sum c = omega arith
 
 cast-sum : tie.Need-cast-sum Inv-loop μ-loop
 cast-sum c =
@@ -80,12 +50,6 @@ add-sum-3 c =
     let a = l .before .before .args in
     omega (arith, c .shared-slice-known3 .given (argumentOf (a .terms .now) (a .i) (l .loop .j)))
 
-add-j : tie.Need-add-j Inv-loop μ-loop
-add-j c = omega arith
-
-loop-less : tie.Need-loop-less Inv-loop μ-loop
-loop-less c = omega arith
-
 loop-again : tie.Need-loop-again Inv-loop μ-loop
 loop-again c =
     let l = c .before .before .before in
@@ -114,24 +78,24 @@ bound-of-spec =
     (tie.spec
     Inv-loop
     μ-loop
-    mul-arity
-    add-arity
-    mul-arity-2
-    shared-slice-read-arity
-    cast-arity
+    (λ c. omega arith)
+    (λ c. omega arith)
+    (λ c. omega arith)
+    (λ c. omega arith)
+    (λ c. omega arith)
     loop-holds
-    mul-sum
-    add-sum
-    add-sum-2
-    mul-sum-2
-    shared-slice-read-sum
+    (λ c. omega arith)
+    (λ c. omega arith)
+    (λ c. omega arith)
+    (λ c. omega arith)
+    (λ c. omega arith)
     cast-sum
     mul-sum-3
     shared-slice-read-sum-2
     cast-sum-2
     add-sum-3
-    add-j
-    loop-less
+    (λ c. omega arith)
+    (λ c. omega arith)
     loop-again
     returns
     returns-2)

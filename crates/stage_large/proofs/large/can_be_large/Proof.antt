@@ -14,15 +14,6 @@ use Rattle.outputs.proofs.Variables.{elements-length}
 use Rattle.stage_large.proofs.large.can_be_large.Statement.{statement}
 use Rattle.stage_large.proofs.large.can_be_large.Tie as tie
 
-is-blockable-requires : tie.Need-is-blockable-requires
-is-blockable-requires c κs = search needs
-
-body-set-requires : tie.Need-body-set-requires
-body-set-requires c κs = search needs
-
-set-size-requires : tie.Need-set-size-requires
-set-size-requires c κs = search needs
-
 mul-result : tie.Need-mul-result
 mul-result c =
     let s = c .before .before .before .before .before in
@@ -49,9 +40,9 @@ pub can-be-large-spec : {M : Type 1} → statement M
 can-be-large-spec =
     tie.close
     (tie.spec
-    is-blockable-requires
-    body-set-requires
-    set-size-requires
+    (λ c κs. search needs)
+    (λ c κs. search needs)
+    (λ c κs. search needs)
     mul-result
     returns
     returns-2)

@@ -22,17 +22,8 @@ loop-holds c =
     let s = c .before .before in
     (omega arith, omega arith, omega (arith, places-none (s .args .terms .now) (s .args .set) (s .args .t4)), s .pre .2, refl)
 
-cast-contains : tie.Need-cast-contains Inv-loop μ-loop
-cast-contains c = omega arith
-
 contains-requires : tie.Need-contains-requires Inv-loop μ-loop
 contains-requires c κs = c .loop-test .taken
-
-mul-term : tie.Need-mul-term Inv-loop μ-loop
-mul-term c = omega arith
-
-array-read-term : tie.Need-array-read-term Inv-loop μ-loop
-array-read-term c = omega arith
 
 cast-term : tie.Need-cast-term Inv-loop μ-loop
 cast-term c =
@@ -52,12 +43,6 @@ add-sum : tie.Need-add-sum Inv-loop μ-loop
 add-sum c =
     let l = c .before .before .before .before .before .before .before in
     omega (arith, l .loop .inv .0, l .loop .inv .1, c .before .before .size-of .ensures .0)
-
-add-v : tie.Need-add-v Inv-loop μ-loop
-add-v c = omega arith
-
-loop-less : tie.Need-loop-less Inv-loop μ-loop
-loop-less c = omega arith
 
 loop-again : tie.Need-loop-again Inv-loop μ-loop
 loop-again c =
@@ -104,15 +89,15 @@ places-spec =
     Inv-loop
     μ-loop
     loop-holds
-    cast-contains
+    (λ c. omega arith)
     contains-requires
-    mul-term
-    array-read-term
+    (λ c. omega arith)
+    (λ c. omega arith)
     cast-term
     size-of-requires
     add-sum
-    add-v
-    loop-less
+    (λ c. omega arith)
+    (λ c. omega arith)
     loop-again
     same-length
     returns)

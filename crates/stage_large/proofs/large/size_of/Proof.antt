@@ -6,18 +6,6 @@ use Rattle.stage_large.proofs.Places.{measured-with}
 use Rattle.stage_large.proofs.large.size_of.Statement.{statement}
 use Rattle.stage_large.proofs.large.size_of.Tie as tie
 
-size-requires : tie.Need-size-requires
-size-requires c κs = search needs
-
-returns : tie.Need-returns
-returns c = search needs
-
-mul-known : tie.Need-mul-known
-mul-known c = search needs
-
-slice-read-known : tie.Need-slice-read-known
-slice-read-known c = search needs
-
 cast-known : tie.Need-cast-known
 cast-known c =
     let s = c .before .before .before .before in
@@ -27,21 +15,6 @@ returns-2 : tie.Need-returns-2
 returns-2 c =
     let s = c .before .before .before .before .before in
     (s .pre .2 (s .args .i) (c .if2 .taken), s .pre .2)
-
-size-requires-2 : tie.Need-size-requires-2
-size-requires-2 c κs = search needs
-
-cast-sizes : tie.Need-cast-sizes
-cast-sizes c = search needs
-
-mul-sizes : tie.Need-mul-sizes
-mul-sizes c = search needs
-
-slice-write-sizes : tie.Need-slice-write-sizes
-slice-write-sizes c = search needs
-
-same-length : tie.Need-same-length
-same-length c = search needs
 
 returns-3 : tie.Need-returns-3
 returns-3 c =
@@ -53,15 +26,15 @@ pub size-of-spec : {M : Type 1} → statement M
 size-of-spec =
     tie.close
     (tie.spec
-    size-requires
-    returns
-    mul-known
-    slice-read-known
+    (λ c κs. search needs)
+    (λ c. search needs)
+    (λ c. search needs)
+    (λ c. search needs)
     cast-known
     returns-2
-    size-requires-2
-    cast-sizes
-    mul-sizes
-    slice-write-sizes
-    same-length
+    (λ c κs. search needs)
+    (λ c. search needs)
+    (λ c. search needs)
+    (λ c. search needs)
+    (λ c. search needs)
     returns-3)

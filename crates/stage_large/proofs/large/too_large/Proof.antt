@@ -50,12 +50,6 @@ is-idle-requires c κs =
     let s = l .before .before .before .before .before .before .before in
     (s .pre .0 .tabled .held, omega arith, s .pre .0 .indexed)
 
-add-i : tie.Need-add-i Inv-loop μ-loop
-add-i c = omega arith
-
-loop-less : tie.Need-loop-less Inv-loop μ-loop
-loop-less c = omega arith
-
 loop-again : tie.Need-loop-again Inv-loop μ-loop
 unfolding ruleOf
 loop-again c =
@@ -143,12 +137,6 @@ returns c =
     ∙ sym (c .before .before .any-large .ensures .0)
     ∙ c .if3 .taken)))
 
-add-i-2 : tie.Need-add-i-2 Inv-loop μ-loop
-add-i-2 c = omega arith
-
-loop-less-2 : tie.Need-loop-less-2 Inv-loop μ-loop
-loop-less-2 c = omega arith
-
 loop-again-2 : tie.Need-loop-again-2 Inv-loop μ-loop
 unfolding ruleOf
 loop-again-2 c =
@@ -201,8 +189,8 @@ too-large-spec =
     greatest-requires
     loop-holds
     is-idle-requires
-    add-i
-    loop-less
+    (λ c. omega arith)
+    (λ c. omega arith)
     loop-again
     can-be-large-requires
     body-requires
@@ -212,7 +200,7 @@ too-large-spec =
     slice-aggregate-any-large
     any-large-requires
     returns
-    add-i-2
-    loop-less-2
+    (λ c. omega arith)
+    (λ c. omega arith)
     loop-again-2
     returns-2)

@@ -9,27 +9,12 @@ use Rattle.stage_output.proofs.CyclicRows.{ordered-front, argument-firs
 use Rattle.stage_output.proofs.cyclic.is_cyclic.Statement.{statement}
 use Rattle.stage_output.proofs.cyclic.is_cyclic.Tie as tie
 
-slice-aggregate-mark-arguments : tie.Need-slice-aggregate-mark-arguments
-slice-aggregate-mark-arguments c = search needs
-
-slice-aggregate-mark-arguments-2 : tie.Need-slice-aggregate-mark-arguments-2
-slice-aggregate-mark-arguments-2 c = search needs
-
 mark-arguments-requires : tie.Need-mark-arguments-requires
 mark-arguments-requires c κs =
     let s = c .before .before .before in
     let h = s .pre .2 in
     let few = s .pre .1 in
     (omega arith, h .few, λ j l. omega (arith, argument-first (s .args .t3) j, h .within j l))
-
-reach-requires : tie.Need-reach-requires
-reach-requires c κs = search needs
-
-array-read-occurs-in-marked : tie.Need-array-read-occurs-in-marked
-array-read-occurs-in-marked c = search needs
-
-slice-aggregate-occurs-in-marked : tie.Need-slice-aggregate-occurs-in-marked
-slice-aggregate-occurs-in-marked c = search needs
 
 occurs-in-marked-requires : tie.Need-occurs-in-marked-requires
 occurs-in-marked-requires c κs =
@@ -57,11 +42,11 @@ pub is-cyclic-spec : {M : Type 1} → statement M
 is-cyclic-spec =
     tie.close
     (tie.spec
-    slice-aggregate-mark-arguments
-    slice-aggregate-mark-arguments-2
+    (λ c. search needs)
+    (λ c. search needs)
     mark-arguments-requires
-    reach-requires
-    array-read-occurs-in-marked
-    slice-aggregate-occurs-in-marked
+    (λ c κs. search needs)
+    (λ c. search needs)
+    (λ c. search needs)
     occurs-in-marked-requires
     returns)

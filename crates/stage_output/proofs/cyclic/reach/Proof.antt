@@ -17,32 +17,8 @@ Inv-loop row arity reached₀ j₀ reached j =
 abbrev μ-loop : tie.MeasureT-loop
 μ-loop row arity reached₀ j₀ reached j = arity - j
 
-array-read-arity : tie.Need-array-read-arity Inv-loop μ-loop
-array-read-arity c = omega arith
-
-cast-arity : tie.Need-cast-arity Inv-loop μ-loop
-cast-arity c = omega arith
-
 loop-holds : tie.Need-loop-holds Inv-loop μ-loop
 loop-holds c = (refl, omega arith, λ k h. absurd (omega arith), λ n h. omega arith)
-
-add-farther : tie.Need-add-farther Inv-loop μ-loop
-add-farther c = omega arith
-
-mul-farther : tie.Need-mul-farther Inv-loop μ-loop
-mul-farther c = omega arith
-
-array-read-farther : tie.Need-array-read-farther Inv-loop μ-loop
-array-read-farther c = omega arith
-
-farther-requires : tie.Need-farther-requires Inv-loop μ-loop
-farther-requires c κs = search needs
-
-add-j : tie.Need-add-j Inv-loop μ-loop
-add-j c = omega arith
-
-loop-less : tie.Need-loop-less Inv-loop μ-loop
-loop-less c = omega arith
 
 loop-again : tie.Need-loop-again Inv-loop μ-loop
 loop-again c =
@@ -69,14 +45,14 @@ reach-spec =
     (tie.spec
     Inv-loop
     μ-loop
-    array-read-arity
-    cast-arity
+    (λ c. omega arith)
+    (λ c. omega arith)
     loop-holds
-    add-farther
-    mul-farther
-    array-read-farther
-    farther-requires
-    add-j
-    loop-less
+    (λ c. omega arith)
+    (λ c. omega arith)
+    (λ c. omega arith)
+    (λ c κs. search needs)
+    (λ c. omega arith)
+    (λ c. omega arith)
     loop-again
     returns)

@@ -6,9 +6,8 @@ use Prim.Native.Nat.{ℕ, _+_, _-_, _≤_}
 use native.Mathlib.Omega.{arith}
 use lib.ListN.{getD}
 use Rattle.model.specs.Lists.{numbersFrom}
-use Rattle.tables.specs.Rows.{rows}
 use Rattle.rows.specs.Making.{firstCyclic}
-use Rattle.stage_output.specs.Cyclic.{cyclicOf, rowWith, rowsWith, Looked}
+use Rattle.stage_output.specs.Cyclic.{groundIn, cyclicOf, rowWith, rowsWith, Looked}
 use Rattle.stage_output.proofs.CyclicRows.{first-none, first-append, rowsWith-none, rowsWith-more}
 use Rattle.stage_output.proofs.cyclic.with_atom.Statement.{statement}
 use Rattle.stage_output.proofs.cyclic.with_atom.Tie as tie
@@ -24,22 +23,13 @@ loop-holds : tie.Need-loop-holds Inv-loop μ-loop
 loop-holds c =
     let s = c .before in
     let a = s .args in
-    let ts = rows 10 (a .n) (a .terms .now) in (
+    let g = groundIn (a .n) (a .terms .now) in (
       omega arith,
       record {
-        first = sym (ap (firstCyclic ts (cyclicOf (a .before .cyclic))) (rowsWith-none (a .t3) (a .template) (a .t1)) ∙ first-none ts (cyclicOf (a .before .cyclic)));
+        first = sym (ap (firstCyclic g (cyclicOf (a .before .cyclic))) (rowsWith-none (a .t3) (a .template) (a .t1)) ∙ first-none g (cyclicOf (a .before .cyclic)));
         unchanging = s .pre .1 .unchanging;
       },
     )
-
-add-function : tie.Need-add-function Inv-loop μ-loop
-add-function c = omega arith
-
-mul-function : tie.Need-mul-function Inv-loop μ-loop
-mul-function c = omega arith
-
-array-read-function : tie.Need-array-read-function Inv-loop μ-loop
-array-read-function c = omega arith
 
 cast-function : tie.Need-cast-function Inv-loop μ-loop
 cast-function c = omega (arith, c .before .before .before .pre .0 .variables (c .before .loop .p) (c .loop-test .taken))
@@ -55,26 +45,20 @@ with-variable-requires c κs =
     let p = c .before .before .before .pre .1 in
     record { ordered = p .ordered; few = p .few; arguments = p .arguments; unchanging = c .before .loop .inv .1 .unchanging }
 
-add-p : tie.Need-add-p Inv-loop μ-loop
-add-p c = omega arith
-
-loop-less : tie.Need-loop-less Inv-loop μ-loop
-loop-less c = omega arith
-
 loop-again : tie.Need-loop-again Inv-loop μ-loop
 loop-again c =
     let w = c .with-variable .ensures in
     let l = c .before .before in
     let a = l .before .before .args in
-    let ts = rows 10 (a .n) (a .terms .now) in
+    let g = groundIn (a .n) (a .terms .now) in
     let f = getD (a .t3) (getD (a .t1) (l .loop .p + 1) 0) 0 in
     let seen = rowsWith (a .t3) (a .template) (numbersFrom (a .t1) 1 (l .loop .p)) in (
       omega arith,
       record {
         first = w .first
-            ∙ ap (λ (ls : List (List ℕ)). firstCyclic ts ls (rowWith f (a .template))) (l .loop .inv .1 .first)
-            ∙ sym (first-append ts (cyclicOf (a .before .cyclic)) seen (rowWith f (a .template)))
-            ∙ ap (firstCyclic ts (cyclicOf (a .before .cyclic))) (sym (rowsWith-more (a .t3) (a .template) (a .t1) (l .loop .p)));
+            ∙ ap (λ (ls : List (List ℕ)). firstCyclic g ls (rowWith f (a .template))) (l .loop .inv .1 .first)
+            ∙ sym (first-append g (cyclicOf (a .before .cyclic)) seen (rowWith f (a .template)))
+            ∙ ap (firstCyclic g (cyclicOf (a .before .cyclic))) (sym (rowsWith-more (a .t3) (a .template) (a .t1) (l .loop .p)));
         unchanging = w .unchanging;
       },
     )
@@ -86,7 +70,7 @@ returns c =
     let e : l .loop .p ≡ a .arity = omega arith in
     record {
       first = l .loop .inv .1 .first
-          ∙ ap (λ (k : ℕ). firstCyclic (rows 10 (a .n) (a .terms .now)) (cyclicOf (a .before .cyclic)) (rowsWith (a .t3) (a .template) (numbersFrom (a .t1) 1 k))) e;
+          ∙ ap (λ (k : ℕ). firstCyclic (groundIn (a .n) (a .terms .now)) (cyclicOf (a .before .cyclic)) (rowsWith (a .t3) (a .template) (numbersFrom (a .t1) 1 k))) e;
       unchanging = l .loop .inv .1 .unchanging;
     }
 
@@ -97,14 +81,14 @@ with-atom-spec =
     Inv-loop
     μ-loop
     loop-holds
-    add-function
-    mul-function
-    array-read-function
+    (λ c. omega arith)
+    (λ c. omega arith)
+    (λ c. omega arith)
     cast-function
     mul-function-2
     array-read-function-2
     with-variable-requires
-    add-p
-    loop-less
+    (λ c. omega arith)
+    (λ c. omega arith)
     loop-again
     returns)

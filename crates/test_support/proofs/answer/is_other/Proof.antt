@@ -11,9 +11,6 @@ returns c =
     let a = t .before .before .before .before .args in
     both-same (a .found .refusal) (a .expected .refusal) (a .found .place) (a .expected .place) (t .if1 .taken) (c .if2 .taken)
 
-answer-requires : tie.Need-answer-requires
-answer-requires c κs = search needs
-
 returns-2 : tie.Need-returns-2
 returns-2 c =
     let a = c .before .before .before .before .before .args in
@@ -23,4 +20,4 @@ returns-2 c =
     (c .before .if1 .came)
 
 pub is-other-spec : {M : Type 1} → statement M
-is-other-spec = tie.close (tie.spec returns answer-requires returns-2)
+is-other-spec = tie.close (tie.spec returns (λ c κs. search needs) returns-2)

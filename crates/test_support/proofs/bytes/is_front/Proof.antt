@@ -18,9 +18,6 @@ abbrev μ-loop : tie.MeasureT-loop
 loop-holds : tie.Need-loop-holds Inv-loop μ-loop
 loop-holds c = (omega arith, λ j l. absurd (omega arith))
 
-shared-slice-read-if1 : tie.Need-shared-slice-read-if1 Inv-loop μ-loop
-shared-slice-read-if1 c = search needs
-
 byte-or-mark-requires : tie.Need-byte-or-mark-requires Inv-loop μ-loop
 byte-or-mark-requires c κs = tt
 
@@ -29,12 +26,6 @@ returns c =
     let l = c .before .before .before .before in
     decides-other (l .before .before .before .args .list .now) (λ k. getD (l .before .before .before .args .bytes .now) k 238) (l .loop .k) (omega arith)
     (λ e. c .if1 .taken (e ∙ sym (c .before .byte-or-mark .ensures)))
-
-add-k : tie.Need-add-k Inv-loop μ-loop
-add-k c = search needs
-
-loop-less : tie.Need-loop-less Inv-loop μ-loop
-loop-less c = search needs
 
 loop-again : tie.Need-loop-again Inv-loop μ-loop
 loop-again c = (omega arith, below-more _ _ (c .before .before .before .before .loop .inv .1) (c .if1 .left ∙ c .before .byte-or-mark .ensures))
@@ -45,4 +36,4 @@ returns-2 c =
     decides-same (l .before .before .before .args .list .now) (λ k. getD (l .before .before .before .args .bytes .now) k 238) (λ j h. l .loop .inv .1 j (omega arith))
 
 pub is-front-spec : {M : Type 1} → statement M
-is-front-spec = tie.close (tie.spec Inv-loop μ-loop loop-holds shared-slice-read-if1 byte-or-mark-requires returns add-k loop-less loop-again returns-2)
+is-front-spec = tie.close (tie.spec Inv-loop μ-loop loop-holds (λ c. search needs) byte-or-mark-requires returns (λ c. search needs) (λ c. search needs) loop-again returns-2)

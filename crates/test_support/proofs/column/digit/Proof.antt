@@ -11,9 +11,6 @@ returns c =
     let s = c .before in
     (sym (digit-missing (s .args .line .now) (s .args .i) (omega arith)), omega arith)
 
-shared-slice-read-b : tie.Need-shared-slice-read-b
-shared-slice-read-b c = search needs
-
 returns-2 : tie.Need-returns-2
 returns-2 c =
     let s = c .before .before .before in
@@ -24,13 +21,10 @@ returns-3 c =
     let s = c .before .before .before .before in
     (sym (digit-above (s .args .line .now) (s .args .i) (omega arith)), omega arith)
 
-cast-result : tie.Need-cast-result
-cast-result c = search needs
-
 returns-4 : tie.Need-returns-4
 returns-4 c =
     let s = c .before .before .before .before in
     (sym (digit-within (s .args .line .now) (s .args .i) (omega arith) (omega arith)), omega arith)
 
 pub digit-spec : {M : Type 1} → statement M
-digit-spec = tie.close (tie.spec returns shared-slice-read-b returns-2 returns-3 cast-result returns-4)
+digit-spec = tie.close (tie.spec returns (λ c. search needs) returns-2 returns-3 (λ c. search needs) returns-4)

@@ -35,9 +35,6 @@ write-fact-lines-requires c κs =
     let p = s .pre .2 in
     (s .pre .1, omega arith)
 
-same-length : tie.Need-same-length
-same-length c = search needs
-
 returns : tie.Need-returns
 returns c =
     let w = c .before .before .before .before .before .before in
@@ -48,4 +45,4 @@ returns c =
 
 pub write-records-spec : {M : Type 1} → statement M
 write-records-spec =
-    tie.close (tie.spec write-term-lines-requires write-fact-lines-requires same-length returns)
+    tie.close (tie.spec write-term-lines-requires write-fact-lines-requires (λ c. search needs) returns)

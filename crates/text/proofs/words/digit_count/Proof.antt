@@ -17,9 +17,6 @@ loop-holds c = counting-start (c .args .n) (c .fits .n .fits)
 add-count : tie.Need-add-count Inv-loop μ-loop
 add-count c = let h = c .before .loop .inv .places in omega arith
 
-loop-less : tie.Need-loop-less Inv-loop μ-loop
-loop-less c = omega arith
-
 loop-again : tie.Need-loop-again Inv-loop μ-loop
 loop-again c = counting-more (c .before .loop .inv) (omega arith)
 
@@ -28,4 +25,4 @@ returns c = counting-end (c .before .loop .inv) (omega arith)
 
 pub digit-count-spec : {M : Type 1} → statement M
 digit-count-spec =
-    tie.close (tie.spec Inv-loop μ-loop loop-holds add-count loop-less loop-again returns)
+    tie.close (tie.spec Inv-loop μ-loop loop-holds add-count (λ c. omega arith) loop-again returns)

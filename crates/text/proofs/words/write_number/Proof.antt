@@ -7,12 +7,6 @@ use Rattle.text.proofs.Writing.{writes-byte, writes-append}
 use Rattle.text.proofs.words.write_number.Statement.{statement}
 use Rattle.text.proofs.words.write_number.Tie as tie
 
-slice-write-out : tie.Need-slice-write-out
-slice-write-out c = search needs
-
-add-write-decimal : tie.Need-add-write-decimal
-add-write-decimal c = search needs
-
 write-decimal-requires : tie.Need-write-decimal-requires
 write-decimal-requires c κs = simp length-set (omega arith)
 
@@ -27,4 +21,4 @@ returns c =
 pub write-number-spec : {M : Type 1} → statement M
 write-number-spec =
     tie.close
-    (tie.spec slice-write-out add-write-decimal write-decimal-requires same-length returns)
+    (tie.spec (λ c. search needs) (λ c. search needs) write-decimal-requires same-length returns)

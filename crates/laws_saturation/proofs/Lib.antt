@@ -1,0 +1,4 @@
+pub mod RuleRows
+pub mod Gained
+pub mod Sizes
+pub mod Closes

@@ -1,0 +1,2 @@
+pub mod RuleRows
+pub mod Gained

@@ -1,0 +1,15 @@
+pub mod Below
+pub mod Since
+pub mod Lists
+pub mod Order
+pub mod From
+pub mod Lexicographic
+pub mod Ordered
+pub mod Sorted
+pub mod Rank
+pub mod Match
+pub mod Fits
+pub mod Small
+pub mod Uses
+pub mod Stays
+pub mod Encode
