@@ -13,31 +13,21 @@ use lib.Seq.{take-all, take-suc, take-add, length-take-le}
 use borrow.Author.Tests.{eqb-true}
 use Rattle.model.specs.Lists.{numbersFrom, padded}
 use Rattle.laws.proofs.Bools.{case}
+use Rattle.laws.proofs.Places.{length-padded, length-numbersFrom, getD-numbersFrom}
 use Rattle.tables.specs.Rows.{rows}
 use Rattle.tables.specs.Terms.{Ordered, functionOf, arityOf, copiedArity, argumentOf, argumentsOf}
 use Rattle.tables.proofs.Tables.{rows-length}
 use Rattle.tables.proofs.Cells.{getD-cell, row-function, argumentsIn-row}
-use Rattle.facts.proofs.Rows.{padded-more, padded-length}
+use Rattle.facts.proofs.Rows.{padded-more}
 use Rattle.tables.proofs.Terms.{argumentsOf-before}
 use Rattle.rows.specs.Copies.{constantRow, argumentsIn, Copies, copyAll, copyTerm}
 use Rattle.facts.specs.Room.{Room}
 
 -- the arguments of a term, by number
 
-numbersFrom-length : (xs : List ℕ) (at n : ℕ) → length (numbersFrom xs at n) ≡ n
-unfolding numbersFrom
-numbersFrom-length xs at zero = refl
-numbersFrom-length xs at (suc n) = ap suc (numbersFrom-length xs (suc at) n)
-
-numbersFrom-at : (xs : List ℕ) (at n j : ℕ) → j < n → getD (numbersFrom xs at n) j 0 ≡ getD xs (at + j) 0
-unfolding numbersFrom
-numbersFrom-at xs at zero j h = absurd (omega arith)
-numbersFrom-at xs at (suc n) zero h = rw (add-zero at)
-numbersFrom-at xs at (suc n) (suc j) h = numbersFrom-at xs (suc at) n j (omega arith) ∙ ap (λ (k : ℕ). getD xs k 0) (suc-add at j ∙ sym (add-suc at j))
-
 arguments-length : (t : List ℕ) (i : ℕ) → length (argumentsOf t i) ≡ arityOf t i
 unfolding argumentsOf
-arguments-length t i = numbersFrom-length t (i * 10 + 2) (arityOf t i)
+arguments-length t i = length-numbersFrom t (i * 10 + 2) (arityOf t i)
 
 -- copies of a list of terms
 
@@ -117,7 +107,7 @@ upTo-more n t i ts j h =
     let l = arguments-length t i in
     ap (λ (k : ℕ). upTo n t i ts k) (add-one j)
     ∙ ap (λ (xs : List ℕ). copyAll (copyTerm n (rows 10 n t)) xs (record { numbers = []; terms = ts }))
-    (take-suc (argumentsOf t i) j 0 (omega arith) ∙ ap (λ (a : ℕ). take j (argumentsOf t i) ++ (a ∷ [])) (numbersFrom-at t (i * 10 + 2) (arityOf t i) j h))
+    (take-suc (argumentsOf t i) j 0 (omega arith) ∙ ap (λ (a : ℕ). take j (argumentsOf t i) ++ (a ∷ [])) (getD-numbersFrom t (i * 10 + 2) (arityOf t i) j h))
     ∙ copyAll-append (copyTerm n (rows 10 n t)) (take j (argumentsOf t i)) (argumentOf t i j ∷ []) (record { numbers = []; terms = ts })
 
 pub upTo-numbers : (n : ℕ) (t : List ℕ) (i : ℕ) (ts : List (List ℕ)) (j : ℕ) → j ≤ arityOf t i → length (upTo n t i ts j .numbers) ≡ j
@@ -219,7 +209,7 @@ module _ {n : ℕ} {t : List ℕ} (o : Ordered n t) (i : ℕ) (h : i < n) {ts : 
   copied-length =
       let a = copied-arity in
       let b = copied-numbers in
-      ap length (c .row) ∙ padded-length 10 (functionOf t i ∷ copiedArity t i ∷ upTo n t i ts j .numbers) (omega arith)
+      ap length (c .row) ∙ length-padded 10 (functionOf t i ∷ copiedArity t i ∷ upTo n t i ts j .numbers) (omega arith)
 
   pub copied-count : m ≡ length (upTo n t i ts j .terms)
   copied-count = sym (rows-length 10 m table) ∙ ap length (c .held)

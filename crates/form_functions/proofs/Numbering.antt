@@ -1,7 +1,7 @@
 -- The numbering of Skolem functions by places is that of model's `entries`, and a function belongs to the disjunct of the last place that
 -- fewer are numbered before. Assumes nothing.
 use mathlib.Core.Path.{_≡_, refl, sym, ap, ap₂, _∙_}
-use mathlib.Core.List.{List, [], _∷_, _++_, append-assoc}
+use mathlib.Core.List.{List, [], _∷_, _++_, append-assoc, List·Memᴰ}
 use Prim.Native.Nat.{ℕ, zero, suc, _+_, _*_, _/_, _%_, _≤_, _<_}
 use native.Mathlib.Decide.{decLt}
 use native.Mathlib.Omega.{arith}
@@ -16,6 +16,7 @@ use Rattle.model.specs.Form.{spaced, decoded}
 use Rattle.laws.proofs.Bools.{true-and}
 use Rattle.laws.proofs.Places.{length-spaced}
 use Rattle.laws.proofs.Rules.{existential-few, length-disjunctsFrom, length-entriesFrom}
+use Rattle.laws.proofs.Lists.{getD-mem}
 use Rattle.form.specs.Places.{Held, rulesOf, ruleOf, disjunctOf}
 use Rattle.form_functions.specs.Functions.{places, functionsAt, functionsBefore, numbering, entryOf, numberedOf, Numbered, Owned}
 use Rattle.form.proofs.Lists.{getD-spaced, spaced-more}
@@ -246,3 +247,19 @@ module _ (form : List ℕ) where
       go (no i) =
           let e : places form ≡ j + 1 = omega arith in
           omega (arith, ap (functionsBefore form) e, before-more j)
+
+-- an entry of a form has the rule of its number, and is one of the rule set's
+entry-rule-from : (n : ℕ) (rs : List Rule) (i : ℕ) → i < length rs
+    → getD (entriesFrom n rs) i (record { rule = record { body = []; head = [] }; disjuncts = [] }) .rule ≡ getD rs i (record { body = []; head = [] })
+unfolding entriesFrom
+entry-rule-from n [] i h = absurd (omega arith)
+entry-rule-from n (r ∷ rs) zero h = refl
+entry-rule-from n (r ∷ rs) (suc i) h = entry-rule-from (n + countSkolem r (r .head)) rs i (omega arith)
+
+pub entry-rule : (form : List ℕ) (i : ℕ) → i < length (rulesOf form) → entryOf form i .rule ≡ ruleOf form i
+unfolding entryOf entries rulesOf ruleOf
+entry-rule form i h = entry-rule-from 0 (rulesOf form) i h
+
+pub entry-mem : (form : List ℕ) (i : ℕ) → i < length (rulesOf form) → List·Memᴰ (entryOf form i) (entries (decoded form))
+unfolding entryOf
+entry-mem form i h = getD-mem (entries (decoded form)) i (record { rule = record { body = []; head = [] }; disjuncts = [] }) (omega (arith, count-entries form))

@@ -60,6 +60,10 @@ pub universal-mem : (r : Rule) {v : ℕ} → List·Memᴰ v (universal r) → in
 unfolding universal
 universal-mem r m = keep-mem (inBody r) names m .1
 
+pub universal-name : (r : Rule) {v : ℕ} → List·Memᴰ v (universal r) → List·Memᴰ v names
+unfolding universal
+universal-name r m = keep-mem (inBody r) names m .0
+
 pub mem-universal : (r : Rule) {v : ℕ} → v ≤ 7 → inBody r v ≡ true → List·Memᴰ v (universal r)
 unfolding universal
 mem-universal r {v} h e = mem-keep (inBody r) (mem-names v h) e

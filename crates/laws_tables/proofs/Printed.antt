@@ -22,7 +22,7 @@ use Rattle.laws_tables.proofs.Spelled.{Held, accepted-held, cyclicAt-he
 use Rattle.laws_tables.proofs.Shown.{term-shown, recorded-shown}
 
 -- the arities of a rule set that was read
-declared-good : (bytes : List ℕ) (b : RuleSet) (i : ℕ) → read bytes ≡ good b i → declared bytes ≡ b .arities
+pub declared-good : (bytes : List ℕ) (b : RuleSet) (i : ℕ) → read bytes ≡ good b i → declared bytes ≡ b .arities
 unfolding declared
 declared-good bytes b i e = rw (e, declared)
 

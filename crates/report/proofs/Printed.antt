@@ -11,7 +11,7 @@ use Rattle.model.specs.Stages.{refused}
 use Rattle.model.specs.Tables.{Checked, checked}
 use Rattle.model.specs.Text.{text, declared, textOf}
 use Rattle.laws_tables.proofs.Courses.{Course, short, faulty, judged, course}
-use Rattle.laws_tables.proofs.Printed.{length-textOf}
+use Rattle.laws_tables.proofs.Printed.{length-textOf, declared-good}
 use Rattle.text.specs.Writing.{Room}
 use Rattle.report.specs.Printing.{textRoom}
 use Rattle.report.proofs.Arities.{Declares, same-text}
@@ -20,10 +20,6 @@ use Rattle.report.proofs.Arities.{Declares, same-text}
 refused-text : (as′ bs : List ℕ) (c : Checked) (n p : ℕ) → c .verdict ≡ refused n p → text as′ (c .verdict) (c .terms) (c .facts) ≡ text bs (c .verdict) (c .terms) (c .facts)
 unfolding text
 refused-text as′ bs c n p e = rw e refl
-
-declared-read : (bytes : List ℕ) (b : RuleSet) (i : ℕ) → read bytes ≡ good b i → declared bytes ≡ b .arities
-unfolding declared
-declared-read bytes b i e = rw (e, declared)
 
 pub checked-text : (bytes terms₀ facts₀ as′ : List ℕ) → Declares bytes as′
     → text as′ (checked bytes terms₀ facts₀ .verdict) (checked bytes terms₀ facts₀ .terms) (checked bytes terms₀ facts₀ .facts) ≡ textOf bytes (checked bytes terms₀ facts₀)
@@ -37,7 +33,7 @@ checked-text bytes terms₀ facts₀ as′ d = go (course bytes terms₀ facts�
     go (short e) = refused-text as′ (declared bytes) c 1 0 (ap (λ (x : Checked). x .verdict) e)
     go (faulty n p i j h r e) = refused-text as′ (declared bytes) c n p (ap (λ (x : Checked). x .verdict) e)
     go (judged b i h r e) =
-        same-text as′ (declared bytes) (λ p. d .same b i r p ∙ ap (λ (xs : List ℕ). getD xs p 0) (sym (declared-read bytes b i r))) (c .terms) (c .facts) (c .verdict)
+        same-text as′ (declared bytes) (λ p. d .same b i r p ∙ ap (λ (xs : List ℕ). getD xs p 0) (sym (declared-good bytes b i r))) (c .terms) (c .facts) (c .verdict)
 
 pub checked-room : (bytes terms₀ facts₀ as′ out : List ℕ) → Declares bytes as′ → textRoom ≤ length out
     → Room (text as′ (checked bytes terms₀ facts₀ .verdict) (checked bytes terms₀ facts₀ .terms) (checked bytes terms₀ facts₀ .facts)) 0 out

@@ -16,7 +16,7 @@ use Rattle.tables.specs.Terms.{total, sizeAt}
 use Rattle.laws.proofs.Places.{zeros-at}
 use Rattle.form_variables.specs.Sets.{has, elements}
 use Rattle.stage_large.specs.Large.{placesOf, Measured}
-use Rattle.stage_large.proofs.Triggers.{names-at}
+use Rattle.rows.proofs.Triggers.{names-at}
 
 total-append : (f : ℕ → ℕ) (xs ys : List ℕ) → total f (xs ++ ys) ≡ total f xs + total f ys
 unfolding total
@@ -47,7 +47,7 @@ module _ (t : List ℕ) (set : ℕ) (xs : List ℕ) where
   unfolding placesBefore
   one-more v h =
       let e : take (v + 1) names ≡ take v names ++ (v ∷ []) =
-      ap (λ (k : ℕ). take k names) (add-one v) ∙ take-suc names v 0 h ∙ ap (λ (u : ℕ). take v names ++ (u ∷ [])) (names-at v h) in
+      ap (λ (k : ℕ). take k names) (add-one v) ∙ take-suc names v 0 h ∙ ap (λ (u : ℕ). take v names ++ (u ∷ [])) (names-at v (omega arith)) in
       ap (λ (us : List ℕ). total (sizeAt t) (map (λ (u : ℕ). getD xs u 0) (keep (has set) us))) e
       ∙ ap (λ (us : List ℕ). total (sizeAt t) (map (λ (u : ℕ). getD xs u 0) us)) (keep-append (has set) (take v names) (v ∷ []))
       ∙ ap (total (sizeAt t)) (map-append (λ (u : ℕ). getD xs u 0) (keep (has set) (take v names)) (keep (has set) (v ∷ [])))

@@ -12,11 +12,11 @@ use borrow.Author.Tests.{eq-eqb, ne-eqb}
 use Rattle.model.specs.Lists.{any, collect, numbersFrom}
 use Rattle.laws.proofs.Bools.{case}
 use Rattle.laws.proofs.Lists.{collect-append, any-agree}
+use Rattle.laws.proofs.Places.{numbersFrom-more}
 use Rattle.tables.specs.Rows.{rows}
 use Rattle.tables.specs.Terms.{argumentOf, argumentsOf, Ordered, occursAt, marked, occursMarked}
 use Rattle.tables.proofs.Terms.{argumentsOf-mem, occurs-more, occurs-none}
 use Rattle.tables.proofs.Tables.{rows-length}
-use Rattle.facts.proofs.Atoms.{numbersFrom-snoc}
 use Rattle.rows.specs.Copies.{argumentsIn}
 use Rattle.tables.proofs.Cells.{numbersFrom-take}
 use Rattle.rows.specs.Making.{Ground, occursIn, cyclicRow, firstCyclic}
@@ -120,7 +120,7 @@ rowsWith-more functions template atom p =
     let with : ℕ → List (List ℕ) = λ v. rowWith (getD functions v 0) template in
     let e : 1 + p ≡ p + 1 = omega arith in
     ap (λ (k : ℕ). collect with (numbersFrom atom 1 k)) (add-one p)
-    ∙ ap (collect with) (numbersFrom-snoc atom 1 p)
+    ∙ ap (collect with) (numbersFrom-more atom 1 p)
     ∙ collect-append with (numbersFrom atom 1 p) (getD atom (1 + p) 0 ∷ [])
     ∙ ap (λ (rs : List (List ℕ)). collect with (numbersFrom atom 1 p) ++ rs) (append-nil (with (getD atom (1 + p) 0)))
     ∙ ap (λ (k : ℕ). collect with (numbersFrom atom 1 p) ++ with (getD atom k 0)) e
