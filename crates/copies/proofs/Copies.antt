@@ -4,14 +4,14 @@ use mathlib.Core.Bool.{true, false}
 use mathlib.Core.List.{List, [], _∷_, _++_, List·Memᴰ, List·Memᴰ·head, List·Memᴰ·tail}
 use mathlib.Core.Logic.{_⊎_, inl, inr}
 use Prim.Native.Nat.{ℕ, zero, suc, _+_, _-_, _*_, _≤_, _<_}
-use native.Mathlib.Nat.{add-zero, add-suc, suc-add}
+use native.Mathlib.Nat.{add-zero}
 use native.Mathlib.Numerals.{add-one}
 use native.Mathlib.Omega.{arith}
 use lib.Dec.{eqb}
 use lib.ListN.{length, getD, take, drop, set, replicate, length-append}
 use lib.Seq.{take-all, take-suc, take-add, length-take-le}
 use borrow.Author.Tests.{eqb-true}
-use Rattle.model.specs.Lists.{numbersFrom, padded}
+use Rattle.model.specs.Lists.{padded}
 use Rattle.laws.proofs.Bools.{case}
 use Rattle.laws.proofs.Places.{length-padded, length-numbersFrom, getD-numbersFrom}
 use Rattle.tables.specs.Rows.{rows}
@@ -210,9 +210,6 @@ module _ {n : ℕ} {t : List ℕ} (o : Ordered n t) (i : ℕ) (h : i < n) {ts : 
       let a = copied-arity in
       let b = copied-numbers in
       ap length (c .row) ∙ length-padded 10 (functionOf t i ∷ copiedArity t i ∷ upTo n t i ts j .numbers) (omega arith)
-
-  pub copied-count : m ≡ length (upTo n t i ts j .terms)
-  copied-count = sym (rows-length 10 m table) ∙ ap length (c .held)
 
   pub copied-more : (table′ : List ℕ) (m′ : ℕ) → j < copiedArity t i
       → rows 10 m′ table′ ≡ copyTerm n (rows 10 n t) (argumentOf t i j) (rows 10 m table)

@@ -1,7 +1,7 @@
 pub mod Stages
 pub mod Sizes
 pub mod Cyclic
-pub mod Loops
+pub mod FirstCyclic
 pub mod Handled
 pub mod Tests
 pub mod Follows

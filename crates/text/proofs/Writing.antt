@@ -5,14 +5,10 @@ use Prim.Native.Nat.{ℕ, suc, _+_, _≤_, _<_}
 use native.Mathlib.Nat.{add-zero, add-assoc}
 use native.Mathlib.Numerals.{add-one}
 use native.Mathlib.Omega.{arith}
-use lib.ListN.{length, take, drop, set, length-append, length-take, length-drop, take-append-drop}
+use lib.ListN.{length, take, drop, set, length-append, length-take, take-append-drop}
 use lib.Seq.{take-at, drop-at, drop-drop, length-take-le, append-snoc, set-append-left, set-split, take-set-lt, drop-set-lt}
 use Rattle.tables.specs.Rows.{written}
-use Rattle.text.specs.Writing.{Room, Writes}
-
-pub length-written : (s : List ℕ) (at : ℕ) (out : List ℕ) → Room s at out → length (written s at out) ≡ length out
-unfolding written
-length-written s at out h = simp (length-append, length-take, length-drop) (omega arith)
+use Rattle.text.specs.Writing.{Writes}
 
 pub written-none : (at : ℕ) (out : List ℕ) → out ≡ written [] at out
 unfolding written
@@ -51,10 +47,6 @@ writes-append {s} {s′} {at} {out} {out′} {mid = mid} h k l =
           k .left ∙ ap (λ (n : ℕ). written s′ n out′) (h .next) ∙ ap (written s′ (at + length s)) (h .left) ∙ written-append s s′ at out l;
       next = let e = h .next in let f = k .next in rw length-append (omega arith);
     }
-
--- what is written keeps the length
-pub writes-length : {s : List ℕ} {at : ℕ} {out out′ : List ℕ} {end : ℕ} → Writes s at out out′ end → Room s at out → length out′ ≡ length out
-writes-length {s} {at} {out} h r = ap length (h .left) ∙ length-written s at out r
 
 -- one byte
 pub writes-byte : (x at : ℕ) (out : List ℕ) → at < length out → Writes (x ∷ []) at out (set out at x) (at + 1)
