@@ -17,7 +17,8 @@ use Rattle.laws_stages.specs.Reached.{Reached}
 use Rattle.laws_stages.proofs.Verdict.{reached-facts-within, reached-terms-within, accepted-says, cyclicAt-says}
 use Rattle.laws_format.proofs.RoundTrip.{reading-good, reading-bad}
 use Rattle.reader.proofs.Held.{read-holds}
-use Rattle.laws_tables.proofs.Courses.{Fronts, checked-bad}
+use Rattle.laws_tables.specs.Lent.{Fronts}
+use Rattle.laws_tables.proofs.Courses.{checked-bad}
 use Rattle.rows.specs.Tables.{flat}
 use Rattle.tables.specs.Rows.{rows}
 use Rattle.tables.proofs.Tables.{rows-length}

@@ -1,40 +1,81 @@
--- The contract of `check` gives demands 1, 2 and 3. Assumes nothing.
-use mathlib.Core.Path.{_≡_, sym, ap, _∙_, subst}
-use mathlib.Core.List.{List, [], _∷_}
-use Prim.Native.Nat.{ℕ, suc, _-_}
+-- The contract of `check` gives demands 1, 2 and 3, and these say no less than the contract. Assumes nothing.
+use mathlib.Core.Path.{_≡_, refl, sym, ap, _∙_, subst}
+use mathlib.Core.List.{List, [], _∷_, _++_}
+use Prim.Native.Nat.{ℕ, suc, _-_, _≤_}
 use native.Mathlib.Omega.{arith}
 use lib.ListN.{take}
-use Rattle.model.specs.Term.{star}
+use Rattle.model.specs.Lists.{collect}
+use Rattle.model.specs.Term.{Term, star}
 use Rattle.model.specs.Rules.{RuleSet, entries}
 use Rattle.model.specs.Format.{good, read}
-use Rattle.model.specs.Stages.{stage, accepted, cyclicAt, refused, verdict, cyclicTerms}
-use Rattle.model.specs.Tables.{Checked, checked}
+use Rattle.model.specs.Triggers.{Fact}
+use Rattle.model.specs.Stages as stages
+use Rattle.model.specs.Stages.{Stage, stage, accepted, cyclicAt, refused, verdict, cyclicTerms}
+use Rattle.model.specs.Limits.{termsFront, factsFront}
+use Rattle.model.specs.Tables.{Checked, checked, left, recorded, fronted, termRow, factRow}
 use Rattle.model.specs.Spelled.{termAt}
 use Rattle.model.specs.Demand.{Demand3}
+use Rattle.laws.specs.Lists.{Distinct}
 use Rattle.laws_format.proofs.Bytes.{read-well-formed}
-use Rattle.laws_stages.proofs.Verdict.{cyclicAt-says}
+use Rattle.laws_stages.specs.Says.{CyclicAt, Cause, large, many, facts, terms, Refused, Says}
+use Rattle.laws_stages.proofs.Growth.{facts-distinct, terms-distinct}
+use Rattle.laws_stages.proofs.Verdict.{verdict-says, says-verdict, cyclicAt-says}
 use Rattle.laws_published.proofs.Dmfa.{accepted-is-dmfa, accepted-is-acyclic, cyclic-is-reached}
-use Rattle.laws_tables.proofs.Courses.{Course, short, faulty, judged, course, refused-untouched, refused-zeroed}
-use Rattle.laws_tables.proofs.Checked.{accepted-judged, cyclicAt-judged, checked-accepted-spelled, checked-cyclic-shown, checked-kept}
+use Rattle.laws_tables.specs.Lent.{Fronts}
+use Rattle.laws_tables.proofs.Courses.{Course, short, faulty, judged, course, checked-short, checked-bad, checked-good, checked-verdict, left-refused, refused-short, refused-faulty, refused-numbered, checked-parsed, refused-untouched, refused-zeroed}
+use Rattle.laws_tables.proofs.Spelled.{Spells}
+use Rattle.laws_tables.proofs.Checked.{checked-accepted-spelled, checked-cyclic-spelled, checked-cyclic-shown, checked-kept}
 use Rattle.laws_demand.proofs.OfCheck.{demand-3-of-check}
 use Rattle.dmfa.specs.Verdict.{meant}
 use Rattle.dmfa.specs.declared.verdict.Verdict.{Verdict}
-use Rattle.dmfa.specs.Promises.{Gave, listed, Demand1, Shown, Demand2, Promised}
+use Rattle.dmfa.specs.Promises.{Checks, listedTerms, listed, shown, Demand1, Holds, Shown, Demand2, Promised}
 
-module _ (bytes terms₀ facts₀ : List ℕ) (r : Verdict) (terms facts : List ℕ) (g : Gave bytes terms₀ facts₀ r terms facts) where
+-- what `left` puts into the tables
+
+left-accepted : (b : RuleSet) (n f t : ℕ) (terms₀ facts₀ : List ℕ) → left b (accepted n f t) terms₀ facts₀ ≡ recorded (accepted n f t) (stage b n) [] terms₀ facts₀
+unfolding left
+left-accepted b n f t terms₀ facts₀ = refl
+
+before : (n : ℕ) → suc n - 1 ≡ n
+before n = omega arith
+
+left-cyclic : (b : RuleSet) (n f t : ℕ) (u : Term) → take 1 (cyclicTerms (entries b) (stage b n)) ≡ u ∷ [] → (terms₀ facts₀ : List ℕ)
+    → left b (cyclicAt (suc n) f t) terms₀ facts₀ ≡ recorded (cyclicAt (suc n) f t) (stage b n) (u ∷ []) terms₀ facts₀
+unfolding left
+left-cyclic b n f t u e terms₀ facts₀ =
+    ap (λ (k : ℕ). recorded (cyclicAt (suc n) f t) (stage b k) (take 1 (cyclicTerms (entries b) (stage b k))) terms₀ facts₀) (before n)
+    ∙ ap (λ (us : List Term). recorded (cyclicAt (suc n) f t) (stage b n) us terms₀ facts₀) e
+
+recorded-is : (v : stages.Verdict) (s : Stage) (us : List Term) (terms₀ facts₀ : List ℕ)
+    → recorded v s us terms₀ facts₀
+    ≡ record { verdict = v; terms = fronted termsFront (collect (termRow (s .terms)) (s .terms ++ us)) terms₀; facts = fronted factsFront (collect (factRow (s .terms)) (s .facts)) facts₀ }
+unfolding recorded
+recorded-is v s us terms₀ facts₀ = refl
+
+module _ (bytes terms₀ facts₀ : List ℕ) (r : Verdict) (ts fs : List ℕ) (g : Checks bytes terms₀ facts₀ r ts fs) where
   verdict-is : checked bytes terms₀ facts₀ .verdict ≡ meant r
   verdict-is = ap (λ (c : Checked). c .verdict) g
 
-  terms-are : checked bytes terms₀ facts₀ .terms ≡ terms
+  terms-are : checked bytes terms₀ facts₀ .terms ≡ ts
   terms-are = ap (λ (c : Checked). c .terms) g
 
-  facts-are : checked bytes terms₀ facts₀ .facts ≡ facts
+  facts-are : checked bytes terms₀ facts₀ .facts ≡ fs
   facts-are = ap (λ (c : Checked). c .facts) g
 
-  gives-1 : Demand1 terms₀ facts₀ r terms facts
+  answered : {v : stages.Verdict} {us gs : List ℕ} → checked bytes terms₀ facts₀ ≡ record { verdict = v; terms = us; facts = gs } → meant r ≡ v
+  answered e = sym verdict-is ∙ ap (λ (c : Checked). c .verdict) e
+
+  gives-1 : Demand1 bytes terms₀ facts₀ r ts fs
   gives-1 =
       let k = checked-kept bytes terms₀ facts₀ in
       record {
+        short = λ p. (
+          λ e. refused-short bytes terms₀ facts₀ p (verdict-is ∙ e),
+          λ (z, h). answered (checked-short bytes terms₀ facts₀ h) ∙ ap (refused 1) (sym z),
+        );
+        faulty = λ n p l u.
+            (λ e. refused-faulty bytes terms₀ facts₀ n p l u (verdict-is ∙ e), λ (h, q). answered (checked-bad bytes terms₀ facts₀ n p h q));
+        numbered = λ n p e. refused-numbered bytes terms₀ facts₀ n p (verdict-is ∙ e);
         untouched = λ n p e h.
             let u = refused-untouched bytes terms₀ facts₀ n p (verdict-is ∙ e) h in
             (sym terms-are ∙ u .terms, sym facts-are ∙ u .facts);
@@ -45,57 +86,136 @@ module _ (bytes terms₀ facts₀ : List ℕ) (r : Verdict) (terms facts : List 
         lengths = (rw (sym terms-are) (k .terms-length), rw (sym facts-are) (k .facts-length));
       }
 
-  gives-read : ((n p : ℕ) → meant r ≡ refused n p → ⊥) → (b : RuleSet) × (i : ℕ) × (read bytes ≡ good b i)
-  gives-read other = go (course bytes terms₀ facts₀)
-    where
-      go : Course bytes terms₀ facts₀ → (b : RuleSet) × (i : ℕ) × (read bytes ≡ good b i)
-      go (short e) = absurd (other 1 0 (sym verdict-is ∙ ap (λ (c : Checked). c .verdict) e))
-      go (faulty m p j k h q e) = absurd (other m p (sym verdict-is ∙ ap (λ (c : Checked). c .verdict) e))
-      go (judged b i h q e) = (b, i, q)
+  module _ (b : RuleSet) (i : ℕ) (h : Fronts terms₀ facts₀) (e : read bytes ≡ good b i) where
+    judges : verdict b ≡ meant r
+    judges = sym (checked-verdict bytes terms₀ facts₀ b i h e) ∙ verdict-is
 
-  module _ (b : RuleSet) (i : ℕ) (e : read bytes ≡ good b i) where
-    spelled : (n f t : ℕ) → meant r ≡ accepted n f t → listed b f t terms facts ≡ stage b n .facts
-    spelled n f t v = rw (sym terms-are, sym facts-are) (checked-accepted-spelled bytes terms₀ facts₀ b i n f t e (verdict-is ∙ v) .facts)
+    leaves : {v : stages.Verdict} → meant r ≡ v → checked bytes terms₀ facts₀ ≡ left b v terms₀ facts₀
+    leaves w = checked-good bytes terms₀ facts₀ b i h e ∙ ap (λ (x : stages.Verdict). left b x terms₀ facts₀) (judges ∙ w)
 
-    accepts : (n f t : ℕ) → meant r ≡ accepted n f t → verdict b ≡ accepted n f t
-    accepts n f t v = accepted-judged bytes terms₀ facts₀ b i n f t e (verdict-is ∙ v) .verdict
+    -- a stage that the tables were left with
+    holds : (v : stages.Verdict) (n f t : ℕ) (us : List Term) → checked bytes terms₀ facts₀ ≡ recorded v (stage b n) us terms₀ facts₀
+        → Spells (b .arities) (stage b n) f t (checked bytes terms₀ facts₀) → Holds b (stage b n) us f t terms₀ facts₀ ts fs
+    holds v n f t us l s =
+        let p = l ∙ recorded-is v (stage b n) us terms₀ facts₀ in
+        let a : listedTerms t ts ≡ stage b n .terms = rw (sym terms-are) (s .terms) in
+        let c : listed b f t ts fs ≡ stage b n .facts = rw (sym terms-are, sym facts-are) (s .facts) in
+        record {
+          term-records = sym terms-are ∙ ap (λ (x : Checked). x .terms) p;
+          fact-records = sym facts-are ∙ ap (λ (x : Checked). x .facts) p;
+          terms-spelled = a;
+          facts-spelled = c;
+          terms-once = subst Distinct (sym a) (terms-distinct b n);
+          facts-once = subst Distinct (sym c) (facts-distinct b n);
+        }
 
-    loops : (n f t : ℕ) → meant r ≡ cyclicAt n f t → verdict b ≡ cyclicAt n f t
-    loops n f t v = cyclicAt-judged bytes terms₀ facts₀ b i n f t e (verdict-is ∙ v) .verdict
+    holds-accepted : (n f t : ℕ) → meant r ≡ accepted n f t → Holds b (stage b n) [] f t terms₀ facts₀ ts fs
+    holds-accepted n f t w =
+        holds (accepted n f t) n f t [] (leaves w ∙ left-accepted b n f t terms₀ facts₀)
+        (checked-accepted-spelled bytes terms₀ facts₀ b i n f t e (verdict-is ∙ w))
 
     -- the term behind the stage's own is the first cyclic one
-    shown-is : (n f t : ℕ) (v : meant r ≡ cyclicAt n f t) → cyclicAt-says b (read-well-formed bytes b i e) (loops n f t v) .shown ≡ termAt (λ j. star) (suc t) terms t
-    shown-is n f t v =
-        let l = cyclicAt-says b (read-well-formed bytes b i e) (loops n f t v) in
-        let k : n - 1 ≡ l .last = (let h = l .next in omega arith) in
-        let c : take 1 (cyclicTerms (entries b) (stage b (n - 1))) ≡ termAt (λ j. star) (suc t) (checked bytes terms₀ facts₀ .terms) t ∷ [] = checked-cyclic-shown bytes terms₀ facts₀ b i n f t e (verdict-is ∙ v) in
-        let d : l .shown ∷ [] ≡ termAt (λ j. star) (suc t) (checked bytes terms₀ facts₀ .terms) t ∷ [] =
-        sym (ap (take 1) (ap (λ (x : ℕ). cyclicTerms (entries b) (stage b x)) k ∙ l .found)) ∙ c in
-        let h : l .shown ≡ termAt (λ j. star) (suc t) (checked bytes terms₀ facts₀ .terms) t = cc in
-        h ∙ ap (λ (x : List ℕ). termAt (λ j. star) (suc t) x t) terms-are
+    shown-first : (n f t : ℕ) → meant r ≡ cyclicAt (suc n) f t → take 1 (cyclicTerms (entries b) (stage b n)) ≡ shown t ts ∷ []
+    shown-first n f t w =
+        ap (λ (k : ℕ). take 1 (cyclicTerms (entries b) (stage b k))) (sym (before n))
+        ∙ checked-cyclic-shown bytes terms₀ facts₀ b i (suc n) f t e (verdict-is ∙ w)
+        ∙ ap (λ (x : List ℕ). termAt (λ j. star) (suc t) x t ∷ []) terms-are
 
-    gives-2 : Demand2 b r terms facts
+    holds-cyclic : (n f t : ℕ) → meant r ≡ cyclicAt (suc n) f t → Holds b (stage b n) (shown t ts ∷ []) f t terms₀ facts₀ ts fs
+    holds-cyclic n f t w =
+        holds (cyclicAt (suc n) f t) n f t (shown t ts ∷ []) (leaves w ∙ left-cyclic b n f t (shown t ts) (shown-first n f t w) terms₀ facts₀)
+        (subst (λ (k : ℕ). Spells (b .arities) (stage b k) f t (checked bytes terms₀ facts₀)) (before n)
+        (checked-cyclic-spelled bytes terms₀ facts₀ b i (suc n) f t e (verdict-is ∙ w)))
+
+    gives-shown : (n f t : ℕ) → meant r ≡ cyclicAt (suc n) f t → Shown b n (shown t ts)
+    gives-shown n f t w =
+        let v : verdict b ≡ cyclicAt (suc n) f t = judges ∙ w in
+        let wf = read-well-formed bytes b i e in
+        let l = cyclicAt-says b wf v in
+        let x = cyclic-is-reached b wf v in
+        let k : l .last ≡ n = (let q = l .next in omega arith) in
+        let d : l .shown ∷ [] ≡ shown t ts ∷ [] = sym (ap (take 1) (ap (λ (j : ℕ). cyclicTerms (entries b) (stage b j)) (sym k) ∙ l .found)) ∙ shown-first n f t w in
+        let c : l .shown ≡ shown t ts = cc in
+        subst (Shown b n) c
+        (record {
+          loops = x .loops;
+          fact = x .fact;
+          known = x .known;
+          reached = x .within (x .fact) (x .known);
+          argument = x .argument;
+          first = shown-first n f t w ∙ sym d;
+          earlier = λ j m. x .first j (omega arith);
+        })
+
+    gives-2 : Demand2 b terms₀ facts₀ r ts fs
     gives-2 =
         let wf = read-well-formed bytes b i e in
         record {
-          least = λ n f t v g′. rw (spelled n f t v) (accepted-is-dmfa b wf (accepts n f t v) g′);
-          acyclic = λ n f t v. accepted-is-acyclic b wf (accepts n f t v);
-          shows = λ n f t v.
-              let w = cyclic-is-reached b wf (loops n f t v) in
-              subst (Shown b n) (shown-is n f t v)
-              (record { loops = w .loops; fact = w .fact; reached = w .within (w .fact) (w .known); argument = w .argument; first = w .first });
+          says = subst (λ (v : stages.Verdict). Says b v) judges (verdict-says b wf);
+          saturated = holds-accepted;
+          least = λ n f t w f′. rw (holds-accepted n f t w .facts-spelled) (accepted-is-dmfa b wf (judges ∙ w) f′);
+          acyclic = λ n f t w. accepted-is-acyclic b wf (judges ∙ w);
+          last = holds-cyclic;
+          shows = gives-shown;
         }
 
-    gives-3 : (n f t : ℕ) → meant r ≡ accepted n f t → Demand3 b (listed b f t terms facts)
-    gives-3 n f t v = rw (sym terms-are, sym facts-are) (demand-3-of-check bytes terms₀ facts₀ b i n f t e (verdict-is ∙ v))
+  gives-3 : (b : RuleSet) (i n f t : ℕ) → read bytes ≡ good b i → meant r ≡ accepted n f t → Demand3 b (listed b f t ts fs)
+  gives-3 b i n f t e w = rw (sym terms-are, sym facts-are) (demand-3-of-check bytes terms₀ facts₀ b i n f t e (verdict-is ∙ w))
 
 -- whatever `check` is given, its answer and tables keep the three demands
-pub promised : (bytes terms₀ facts₀ : List ℕ) (r : Verdict) (terms facts : List ℕ) → Gave bytes terms₀ facts₀ r terms facts
-    → Promised bytes terms₀ facts₀ r terms facts
-promised bytes terms₀ facts₀ r terms facts g =
+pub promised : (bytes terms₀ facts₀ : List ℕ) (r : Verdict) (ts fs : List ℕ) → Checks bytes terms₀ facts₀ r ts fs → Promised bytes terms₀ facts₀ r ts fs
+promised bytes terms₀ facts₀ r ts fs g =
     record {
-      demand1 = gives-1 bytes terms₀ facts₀ r terms facts g;
-      parsed = gives-read bytes terms₀ facts₀ r terms facts g;
-      demand2 = λ b i e. gives-2 bytes terms₀ facts₀ r terms facts g b i e;
-      demand3 = λ b i n f t e v. gives-3 bytes terms₀ facts₀ r terms facts g b i e n f t v;
+      demand1 = gives-1 bytes terms₀ facts₀ r ts fs g;
+      parsed = λ other. checked-parsed bytes terms₀ facts₀ (λ n p l v. other n p l (sym (verdict-is bytes terms₀ facts₀ r ts fs g) ∙ v));
+      demand2 = λ b i h e. gives-2 bytes terms₀ facts₀ r ts fs g b i h e;
+      demand3 = λ b i n f t e w. gives-3 bytes terms₀ facts₀ r ts fs g b i n f t e w;
     }
+
+-- the other way: an answer and tables that keep demands 1 and 2 are those of the contract
+
+cause-late : {b : RuleSet} {k n : ℕ} → Cause b k n → 11 ≤ n
+cause-late (large h) = omega arith
+cause-late (many h i) = omega arith
+cause-late (facts h i j l) = omega arith
+cause-late (terms h i j l m) = omega arith
+
+module _ (bytes terms₀ facts₀ : List ℕ) (r : Verdict) (ts fs : List ℕ) (p : Promised bytes terms₀ facts₀ r ts fs) where
+  abbrev gave : Checked
+  gave = record { verdict = meant r; terms = ts; facts = fs }
+
+  equal : {v : stages.Verdict} {us gs : List ℕ} → meant r ≡ v → ts ≡ us → fs ≡ gs → record { verdict = v; terms = us; facts = gs } ≡ gave
+  equal a b c = sym (λ k. record { verdict = a k; terms = b k; facts = c k })
+
+  unchanged : (n q : ℕ) → n ≤ 10 → meant r ≡ refused n q → record { verdict = refused n q; terms = terms₀; facts = facts₀ } ≡ gave
+  unchanged n q l e = let (a, b) = p .demand1 .untouched n q e l in equal e a b
+
+  module _ (b : RuleSet) (d : Demand2 b terms₀ facts₀ r ts fs) where
+    left-gave : (v : stages.Verdict) → meant r ≡ v → Says b v → left b v terms₀ facts₀ ≡ gave
+    left-gave (accepted n f t) w s =
+        let h = d .saturated n f t w in
+        left-accepted b n f t terms₀ facts₀ ∙ recorded-is (accepted n f t) (stage b n) [] terms₀ facts₀ ∙ equal w (h .term-records) (h .fact-records)
+    left-gave (cyclicAt n f t) w s =
+        let m = s .last in
+        let w′ : meant r ≡ cyclicAt (suc m) f t = w ∙ ap (λ (j : ℕ). cyclicAt j f t) (s .next) in
+        let h = d .last m f t w′ in
+        ap (λ (j : ℕ). left b (cyclicAt j f t) terms₀ facts₀) (s .next)
+        ∙ left-cyclic b m f t (shown t ts) (d .shows m f t w′ .first) terms₀ facts₀
+        ∙ recorded-is (cyclicAt (suc m) f t) (stage b m) (shown t ts ∷ []) terms₀ facts₀
+        ∙ equal w′ (h .term-records) (h .fact-records)
+    left-gave (refused n q) w s =
+        let (x, y) = p .demand1 .zeroed n q w (cause-late (s .cause)) in
+        left-refused b n q terms₀ facts₀ ∙ equal w x y
+
+  -- so nothing of the contract is lost
+  pub promised-whole : Checks bytes terms₀ facts₀ r ts fs
+  promised-whole = go (course bytes terms₀ facts₀)
+    where
+      go : Course bytes terms₀ facts₀ → Checks bytes terms₀ facts₀ r ts fs
+      go (short h e) = e ∙ unchanged 1 0 (omega arith) (p .demand1 .short 0 .1 (refl, h))
+      go (faulty n q l u h k e) = e ∙ unchanged n q u (p .demand1 .faulty n q l u .1 (h, k))
+      go (judged b i h k e) =
+          let d = p .demand2 b i h k in
+          e
+          ∙ ap (λ (v : stages.Verdict). left b v terms₀ facts₀) (says-verdict b (read-well-formed bytes b i k) (meant r) (d .says))
+          ∙ left-gave b d (meant r) refl (d .says)

@@ -9,15 +9,13 @@ use crate::judging::Judgement;
 use crate::judging::judge;
 use crate::verdict::Verdict;
 use reader::Transfer;
-ghost use mathlib.Core.Path.{_≡_};
 ghost use Prim.Native.Nat.{_≤_};
 ghost use lib.ListN.{length};
 ghost use Rattle.model.specs.Limits.{factRoom, termsFront, factsFront};
-ghost use Rattle.model.specs.Tables.{checked};
 ghost use Rattle.form.specs.Places.{Held};
 ghost use Rattle.tables.specs.TermHash.{KeptTerms};
 ghost use Rattle.facts.specs.Hashed.{Kept};
-ghost use Rattle.dmfa.specs.Verdict.{meant};
+ghost use Rattle.dmfa.specs.Promises.{Checks};
 ghost use Rattle.dmfa.specs.Judging.{smallRoom, Checkable, Leaves, CheckedAs};
 
 // The caller's tables begin with 513 terms, those of a stage and a cyclic one, and with 2,048 facts.
@@ -129,7 +127,7 @@ fn check_form(form: &[u16], terms: &mut [u16], facts: &mut [u16]) -> Verdict
 
 // The verdict on a rule set given as bytes, and the caller's two tables.
 pub fn check(bytes: &[u8], terms: &mut [u16], facts: &mut [u16]) -> Verdict
-    ensures { λ r. ⌜ checked (now (bytes .entry)) (now (terms .entry)) (now (facts .entry)) ≡ record { verdict = meant r; terms = now (terms .exit); facts = now (facts .exit) } ⌝ }
+    ensures { λ r. ⌜ Checks (now (bytes .entry)) (now (terms .entry)) (now (facts .entry)) r (now (terms .exit)) (now (facts .exit)) ⌝ }
 {
     if terms.len() < TERMS_FRONT {
         return Verdict::Refused(1, 0);

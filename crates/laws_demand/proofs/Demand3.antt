@@ -13,7 +13,8 @@ use Rattle.laws.proofs.Lists.{false-any}
 use Rattle.laws.proofs.Prefixes.{prefix-mem}
 use Rattle.laws_stages.proofs.Outputs.{mem-outputs}
 use Rattle.laws_stages.proofs.Growth.{stage-zero-facts, facts-grow, outputs-in}
-use Rattle.laws_stages.proofs.Verdict.{Accepted, accepted-says}
+use Rattle.laws_stages.specs.Says.{Accepted}
+use Rattle.laws_stages.proofs.Verdict.{accepted-says}
 use Rattle.laws_published.proofs.Dmfa.{stage-acyclic, mem-triggersIn}
 use Rattle.laws_chase.proofs.Steps.{steps-bounded}
 use Rattle.laws_demand.proofs.Covered.{Saturated, chase-covered}

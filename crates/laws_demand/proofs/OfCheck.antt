@@ -12,7 +12,8 @@ use Rattle.model.specs.Tables.{Checked, left, checked}
 use Rattle.model.specs.Spelled.{spelledFacts}
 use Rattle.model.specs.Demand.{Demand3, Demand3OfCheck}
 use Rattle.laws_format.proofs.Bytes.{read-well-formed}
-use Rattle.laws_tables.proofs.Courses.{Fronts, Course, short, faulty, judged, course, checked-good, checked-verdict}
+use Rattle.laws_tables.specs.Lent.{Fronts}
+use Rattle.laws_tables.proofs.Courses.{Course, short, faulty, judged, course, checked-good, checked-verdict}
 use Rattle.laws_tables.proofs.Spelled.{accepted-spelled}
 use Rattle.laws_demand.proofs.Demand3.{demand-3}
 
@@ -21,7 +22,7 @@ module _ (bytes terms₀ facts₀ : List ℕ) {b : RuleSet} {i n f t : ℕ} (e :
   fronts = go (course bytes terms₀ facts₀)
     where
       go : Course bytes terms₀ facts₀ → Fronts terms₀ facts₀
-      go (short k) =
+      go (short l k) =
           let v : refused 1 0 ≡ accepted n f t = sym (ap (λ (c : Checked). c .verdict) k) ∙ h in
           let z : _≡_ {A = ℕ} 0 1 = cc in absurd (omega arith)
       go (faulty m p l u w r k) = w

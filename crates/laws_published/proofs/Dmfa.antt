@@ -21,7 +21,8 @@ use Rattle.laws.proofs.Prefixes.{prefix-mem}
 use Rattle.laws_stages.specs.Reached.{Reached}
 use Rattle.laws_stages.proofs.Outputs.{Fires, outputs-mem, mem-outputs, cyclicTerms-mem, outputs-acyclic, test-sets-within}
 use Rattle.laws_stages.proofs.Growth.{stage-zero-facts, stage-zero-terms, outputsOf, facts-from, facts-grow, outputs-added, arguments-in-terms, Named, terms-are-named}
-use Rattle.laws_stages.proofs.Verdict.{CyclicAt, Cause, large, many, facts, terms, accepted-says, cyclicAt-says, refused-says, reached-before, accepted-closed}
+use Rattle.laws_stages.specs.Says.{CyclicAt, Cause, large, many, facts, terms}
+use Rattle.laws_stages.proofs.Verdict.{accepted-says, cyclicAt-says, refused-says, reached-before, accepted-closed}
 use Rattle.laws_stages.proofs.Order.{Proper, proper-star, proper-skolem, terms-proper}
 use Rattle.laws_published.proofs.Closure.{loaded-trigger}
 use Rattle.laws_published.proofs.Blocked.{blocked-sound, blocked-complete}

@@ -14,8 +14,9 @@ use Rattle.model.specs.Limits.{termsFront, factsFront}
 use Rattle.model.specs.Tables.{Checked, checked, left}
 use Rattle.model.specs.Spelled.{termAt}
 use Rattle.laws_format.proofs.Bytes.{read-well-formed}
+use Rattle.laws_tables.specs.Lent.{Fronts}
 use Rattle.laws_tables.proofs.Rows.{length-fronted, drop-fronted, fronted-within}
-use Rattle.laws_tables.proofs.Courses.{Fronts, Course, short, faulty, judged, course, checked-verdict, left-refused}
+use Rattle.laws_tables.proofs.Courses.{Course, short, faulty, judged, course, checked-verdict, left-refused}
 use Rattle.laws_tables.proofs.Fronts.{terms-beyond, facts-beyond, terms-length, facts-length, terms-small, facts-small}
 use Rattle.laws_tables.proofs.Spelled.{Held, accepted-held, cyclicAt-held, Spells, accepted-spelled, cyclic-spelled, cyclic-shown}
 
@@ -30,7 +31,7 @@ answer-judged : (bytes terms₀ facts₀ : List ℕ) (b : RuleSet) (i : ℕ) (v 
 answer-judged bytes terms₀ facts₀ b i v r n e = go (course bytes terms₀ facts₀)
   where
     go : Course bytes terms₀ facts₀ → Judged bytes terms₀ facts₀ b v
-    go (short k) = absurd (n 1 0 (sym (ap (λ (c : Checked). c .verdict) k) ∙ e))
+    go (short h k) = absurd (n 1 0 (sym (ap (λ (c : Checked). c .verdict) k) ∙ e))
     go (faulty m p j l h q k) = absurd (n m p (sym (ap (λ (c : Checked). c .verdict) k) ∙ e))
     go (judged b' i' h q k) =
         let s : b' ≡ b = cc in
@@ -141,7 +142,7 @@ checked-kept bytes terms₀ facts₀ = go (course bytes terms₀ facts₀)
         (record { terms-beyond = refl; facts-beyond = refl; terms-length = refl; facts-length = refl })
 
     go : Course bytes terms₀ facts₀ → Kept terms₀ facts₀ (checked bytes terms₀ facts₀)
-    go (short e) = same e
+    go (short h e) = same e
     go (faulty n p i j h r e) = same e
     go (judged b i h r e) = subst (λ (c : Checked). Kept terms₀ facts₀ c) (sym e) (left-kept b (read-well-formed bytes b i r) terms₀ facts₀ h (verdict b) refl)
 
@@ -155,7 +156,7 @@ checked-bounded bytes terms₀ facts₀ w l k = go (course bytes terms₀ facts�
     same e = subst (λ (c : Checked). Bounded w (c .terms) (c .facts)) (sym e) k
 
     go : Course bytes terms₀ facts₀ → Bounded w (checked bytes terms₀ facts₀ .terms) (checked bytes terms₀ facts₀ .facts)
-    go (short e) = same e
+    go (short h e) = same e
     go (faulty n p i j h r e) = same e
     go (judged b i h r e) =
         subst (λ (c : Checked). Bounded w (c .terms) (c .facts)) (sym e) (left-bounded b (read-well-formed bytes b i r) terms₀ facts₀ w l k (verdict b) refl)

@@ -62,7 +62,7 @@ length-textOf bytes terms₀ facts₀ = go (course bytes terms₀ facts₀)
     refusal n p l e = let k = length-refused (declared bytes) n p terms₀ facts₀ (omega arith) in rw e (omega arith)
 
     go : Course bytes terms₀ facts₀ → length (text (declared bytes) (c .verdict) (c .terms) (c .facts)) ≤ 72767
-    go (short e) = refusal 1 0 (omega arith) e
+    go (short h e) = refusal 1 0 (omega arith) e
     go (faulty n p i j h r e) = refusal n p j e
     go (judged b i h r e) =
         rw (declared-good bytes b i r, e, left-verdict b (verdict b) terms₀ facts₀)

@@ -14,7 +14,8 @@ use Rattle.model.specs.Tables.{Checked, left, recorded}
 use Rattle.model.specs.Spelled.{termAt, spelledTerms, spelledFacts}
 use Rattle.laws_stages.proofs.Outputs.{cyclicTerms-mem}
 use Rattle.laws_stages.proofs.Order.{outputs-terms}
-use Rattle.laws_stages.proofs.Verdict.{CyclicAt, accepted-says, cyclicAt-says}
+use Rattle.laws_stages.specs.Says.{CyclicAt}
+use Rattle.laws_stages.proofs.Verdict.{accepted-says, cyclicAt-says}
 use Rattle.laws_tables.proofs.Recorded.{Recorded, terms-spelled, facts-spelled, term-spelled}
 use Rattle.laws_tables.proofs.Fronts.{Within}
 use Rattle.laws_tables.proofs.Stages.{Next, stage-recorded, stage-within}

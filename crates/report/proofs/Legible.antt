@@ -107,7 +107,7 @@ checked-legible bytes terms₀ facts₀ as′ d v e = go (course bytes terms₀ 
     refusal (Refused m q′) n p q = tt
 
     go : Course bytes terms₀ facts₀ → Legible as′ v (c .terms) (c .facts)
-    go (short q) = refusal v 1 0 (sym (ap (λ (x : Checked). x .verdict) q) ∙ e)
+    go (short h q) = refusal v 1 0 (sym (ap (λ (x : Checked). x .verdict) q) ∙ e)
     go (faulty n p i j h r q) = refusal v n p (sym (ap (λ (x : Checked). x .verdict) q) ∙ e)
     go (judged b i h r q) =
         let u : stages.verdict b ≡ meant v = sym (left-verdict b (stages.verdict b) terms₀ facts₀) ∙ sym (ap (λ (x : Checked). x .verdict) q) ∙ e in

@@ -30,7 +30,7 @@ checked-text bytes terms₀ facts₀ as′ d = go (course bytes terms₀ facts�
     c = checked bytes terms₀ facts₀
 
     go : Course bytes terms₀ facts₀ → text as′ (c .verdict) (c .terms) (c .facts) ≡ text (declared bytes) (c .verdict) (c .terms) (c .facts)
-    go (short e) = refused-text as′ (declared bytes) c 1 0 (ap (λ (x : Checked). x .verdict) e)
+    go (short h e) = refused-text as′ (declared bytes) c 1 0 (ap (λ (x : Checked). x .verdict) e)
     go (faulty n p i j h r e) = refused-text as′ (declared bytes) c n p (ap (λ (x : Checked). x .verdict) e)
     go (judged b i h r e) =
         same-text as′ (declared bytes) (λ p. d .same b i r p ∙ ap (λ (xs : List ℕ). getD xs p 0) (sym (declared-good bytes b i r))) (c .terms) (c .facts) (c .verdict)

@@ -7,7 +7,8 @@ use lib.ListN.{length, replicate, length-replicate}
 use Rattle.model.specs.Form.{formLength, done, Reading, reading}
 use Rattle.reader.specs.declared.Transfer.{Transfer}
 use Rattle.reader.specs.Transfer.{transferOf}
-use Rattle.laws_tables.proofs.Courses.{Fronts, checked-short}
+use Rattle.laws_tables.specs.Lent.{Fronts}
+use Rattle.laws_tables.proofs.Courses.{checked-short}
 use Rattle.dmfa.proofs.Checking.{checked-refused, form-held, checked-left}
 use borrow.Author.Needs.{needs}
 use Rattle.dmfa.proofs.check.Statement.{statement}
