@@ -1,4 +1,7 @@
--- What the answers of `read` and `write` stand for. Assumes nothing.
+-- What the answers of `read` and `write` stand for, and the contract of `read`. Assumes nothing.
+use mathlib.Core.Path.{_≡_}
+use mathlib.Core.List.{List}
+use Prim.Native.Nat.{ℕ}
 use Rattle.model.specs.Form as form
 use Rattle.reader.specs.declared.Transfer.{Transfer}
 use Rattle.reader.specs.declared.Transfer.the-variants.{Done, Refusal}
@@ -7,3 +10,7 @@ use Rattle.reader.specs.declared.Transfer.the-variants.{Done, Refusal}
 abbrev pub transferOf : Transfer → form.Transfer
 transferOf (Done n) = form.done n
 transferOf (Refusal n p) = form.refusal n p
+
+-- what `read` answers and leaves, given bytes and a form
+abbrev pub Reads : List ℕ → List ℕ → Transfer → List ℕ → Type 0
+Reads bytes form₀ r left = form.reading bytes form₀ ≡ record { answer = transferOf r; form = left }

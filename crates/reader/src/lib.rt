@@ -17,13 +17,13 @@ ghost use Rattle.model.specs.Lists.{padded, collect};
 ghost use Rattle.model.specs.Rules.{Atom};
 ghost use Rattle.model.specs.Format.{many};
 ghost use Rattle.model.specs.Limits.{factWidth, ruleLimit};
-ghost use Rattle.model.specs.Form.{groupWidth, ruleWidth, rulesLength, formLength, atomRow, group, ruleRow, encoded, reading};
+ghost use Rattle.model.specs.Form.{groupWidth, ruleWidth, rulesLength, formLength, atomRow, group, ruleRow, encoded};
 ghost use Rattle.model.specs.Format as format;
 ghost use Rattle.form_variables.specs.Sets.{setOf};
 ghost use Rattle.parsing.specs.Step.{none, parsedRules, zeros, Filled, Arities, atomSet, atomsSet};
 ghost use Rattle.parsing.specs.Heads.{fault as faulty};
 ghost use Rattle.reader.specs.Parts.{rulesRow, afterArities};
-ghost use Rattle.reader.specs.Transfer.{transferOf};
+ghost use Rattle.reader.specs.Transfer.{Reads};
 
 // The place of a rule's disjuncts in its row, and that of the arities in a form, which are its last 64 numbers.
 const HEAD_PLACE: usize = 1 + GROUP_WIDTH;
@@ -295,7 +295,7 @@ fn stated(bytes: &[u8]) -> usize
 
 // Bytes into a form (document 01: book form), which stays as it was on a refusal. A form too short is refusal 1.
 pub fn read(bytes: &[u8], form: &mut [u16]) -> Transfer
-    ensures { λ r. ⌜ reading (now (bytes .entry)) (now (form .entry)) ≡ record { answer = transferOf r; form = now (form .exit) } ⌝ }
+    ensures { λ r. ⌜ Reads (now (bytes .entry)) (now (form .entry)) r (now (form .exit)) ⌝ }
 {
     if form.len() < LENGTH {
         return Transfer::Refusal(1, 0);

@@ -1,26 +1,24 @@
 -- What `print` leaves is what the definition gives: for a list too short, and for an answer of the check whose text was written. Assumes nothing.
-use mathlib.Core.Path.{_≡_, sym, ap, _∙_, subst}
-use mathlib.Core.Bool.{Bool, true, false, _&&_}
-use mathlib.Core.Logic.{_⊎_, inl, inr}
+use mathlib.Core.Path.{_≡_, refl, sym, ap, _∙_, subst}
 use mathlib.Core.List.{List, _++_}
 use Prim.Native.Nat.{ℕ, _≤_, _<_}
 use native.Mathlib.Nat.{zero-add}
 use native.Mathlib.Omega.{arith}
-use lib.ListN.{length, drop}
-use lib.Dec.{leb}
-use borrow.Author.Tests.{le-leb, lt-leb, leb-true}
+use lib.ListN.{length, take, drop, replicate, length-replicate}
+use lib.Seq.{take-at}
+use borrow.Author.Tests.{le-leb, lt-leb}
 use Rattle.model.specs.Form.{done, refusal}
-use Rattle.model.specs.Limits.{termsFront, factsFront}
+use Rattle.model.specs.Limits.{inputLimit, termsFront, factsFront}
 use Rattle.model.specs.Tables.{Checked, checked}
-use Rattle.model.specs.Text.{text, textOf}
+use Rattle.model.specs.Text.{text, textOf, printed}
+use Rattle.reader.specs.Transfer.{transferOf}
+use Rattle.reader.specs.declared.Transfer.{Transfer}
 use Rattle.dmfa.specs.declared.verdict.Verdict.{Verdict}
 use Rattle.dmfa.specs.Verdict.{meant}
-use Rattle.laws.proofs.Bools.{case, and-true}
-use Rattle.laws_tables.proofs.Printed.{length-textOf}
 use Rattle.tables.specs.Rows.{written}
 use Rattle.text.specs.Writing.{Room, Writes}
 use Rattle.text.specs.Legible.{Legible}
-use Rattle.report.specs.Printing.{Printing, printing, textRoom}
+use Rattle.report.specs.Printing.{Printing, printing, textRoom, Prints}
 use Rattle.report.proofs.Arities.{Declares}
 use Rattle.report.proofs.Legible.{checked-legible}
 use Rattle.report.proofs.Printed.{checked-text, checked-room}
@@ -76,25 +74,29 @@ module _ (bytes terms facts out : List ℕ) where
       let q : s ++ drop (length s) out ≡ out′ = sym (w .left ∙ ap (λ (n : ℕ). s ++ drop n out) (zero-add (length s))) in
       long h k l ∙ ap printedAs e ∙ (λ i. record { answer = done (p i); terms = c .terms; facts = c .facts; out = q i })
 
--- how many bytes were written is within the list
-pub print-within : (bytes terms facts out : List ℕ) (x : Printing) → printing bytes terms facts out ≡ x → (n : ℕ) → x .answer ≡ done n → n ≤ length out
-unfolding printing
-print-within bytes terms facts out x e n a = go (case test)
-  where
-    test : Bool
-    test = leb termsFront (length terms) && leb factsFront (length facts) && leb textRoom (length out)
+-- what the program prints: the first bytes of its input, and tables of zeros
+module _ (input out : List ℕ) (l : textRoom ≤ length out) where
+  abbrev firstBytes : List ℕ
+  firstBytes = take inputLimit input
 
-    told : printing bytes terms facts out .answer ≡ done n
-    told = ap (λ (y : Printing). y .answer) e ∙ a
+  abbrev zeroTerms : List ℕ
+  zeroTerms = replicate termsFront 0
 
-    go : (test ≡ true) ⊎ (test ≡ false) → n ≤ length out
-    go (inl t) =
-        let r = leb-true textRoom (length out) (and-true (leb termsFront (length terms) && leb factsFront (length facts)) (leb textRoom (length out)) t .1) in
-        let q : done (length (textOf bytes (checked bytes terms facts))) ≡ done n = rw (t, printing) at told in
-        let m : length (textOf bytes (checked bytes terms facts)) ≡ n = cc in
-        let k = length-textOf bytes terms facts in
-        omega arith
-    go (inr t) =
-        let q : refusal 1 0 ≡ done n = rw (t, printing) at told in
-        let z : _≡_ {A = ℕ} 0 1 = cc in
-        absurd (omega arith)
+  abbrev zeroFacts : List ℕ
+  zeroFacts = replicate factsFront 0
+
+  printing-printed : printing firstBytes zeroTerms zeroFacts out ≡ printedAs firstBytes zeroTerms zeroFacts out (checked firstBytes zeroTerms zeroFacts)
+  printing-printed =
+      let a = length-replicate {A = ℕ} termsFront 0 in
+      let b = length-replicate {A = ℕ} factsFront 0 in
+      long firstBytes zeroTerms zeroFacts out (omega arith) (omega arith) l
+
+  -- whatever `print` answers then, it is how many bytes `printed` has, and these stand first
+  pub program-prints : (r : Transfer) {terms facts left : List ℕ} → Prints firstBytes zeroTerms zeroFacts out r terms facts left
+      → (transferOf r ≡ done (length (printed input))) × (take (length (printed input)) left ≡ printed input)
+  unfolding printed
+  program-prints r {terms} {facts} {left} p =
+      let e = sym p ∙ printing-printed in (
+        ap (λ (x : Printing). x .answer) e,
+        ap (λ (x : Printing). take (length (printed input)) (x .out)) e ∙ take-at (printed input) (drop (length (printed input)) out) (length (printed input)) refl,
+      )

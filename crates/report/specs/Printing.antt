@@ -1,4 +1,4 @@
--- Everything that `print` answers and leaves behind. Assumes nothing.
+-- Everything that `print` answers and leaves behind, and its contract. Assumes nothing.
 use mathlib.Core.Path.{_≡_}
 use mathlib.Core.Bool.{true, false, _&&_}
 use mathlib.Core.List.{List, _++_}
@@ -9,8 +9,10 @@ use Rattle.model.specs.Form.{Transfer, done, refusal}
 use Rattle.model.specs.Limits.{termsFront, factsFront}
 use Rattle.model.specs.Tables.{Checked, checked}
 use Rattle.model.specs.Text.{textOf}
+use Rattle.reader.specs.Transfer.{transferOf}
+use Rattle.reader.specs.declared.Transfer as answers
 use Rattle.dmfa.specs.declared.verdict.Verdict.{Verdict}
-use Rattle.dmfa.specs.Verdict.{meant}
+use Rattle.dmfa.specs.Promises.{Checks}
 
 -- so many bytes have room for every text
 abbrev pub textRoom : ℕ
@@ -33,7 +35,12 @@ printing bytes terms facts out =
           record { answer = done (length s); terms = c .terms; facts = c .facts; out = s ++ drop (length s) out }
     ]
 
+-- the contract: what `print` answers and leaves, given bytes, two tables and a list for the text
+abbrev pub Prints : List ℕ → List ℕ → List ℕ → List ℕ → answers.Transfer → List ℕ → List ℕ → List ℕ → Type 0
+Prints bytes terms₀ facts₀ out₀ r terms facts out =
+    printing bytes terms₀ facts₀ out₀ ≡ record { answer = transferOf r; terms = terms; facts = facts; out = out }
+
 -- an answer of the check, and what the check left in its tables
 abbrev pub Answer : List ℕ → Verdict → List ℕ → List ℕ → Type 0
 Answer bytes v terms facts =
-    (terms₀ : List ℕ) × (facts₀ : List ℕ) × (checked bytes terms₀ facts₀ ≡ record { verdict = meant v; terms = terms; facts = facts })
+    (terms₀ : List ℕ) × (facts₀ : List ℕ) × Checks bytes terms₀ facts₀ v terms facts

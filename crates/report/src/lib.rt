@@ -3,14 +3,12 @@ use dmfa::verdict::Verdict;
 use form::layout::LENGTH;
 use form::layout::arity_place;
 use reader::Transfer;
-ghost use mathlib.Core.Path.{_≡_};
 ghost use Prim.Native.Nat.{_≤_};
 ghost use lib.ListN.{length};
 ghost use Rattle.model.specs.Text.{textOf};
-ghost use Rattle.reader.specs.Transfer.{transferOf};
 ghost use Rattle.dmfa.specs.Verdict.{meant};
 ghost use Rattle.text.specs.Writing.{Writes};
-ghost use Rattle.report.specs.Printing.{Answer, textRoom, printing};
+ghost use Rattle.report.specs.Printing.{Answer, textRoom, Prints};
 
 // The front parts of the caller's tables, and room for every text (model's `Limits`, specs/Printing).
 pub const TERMS_FRONT: usize = 5130;
@@ -38,7 +36,7 @@ fn write_answer(
 
 // Runs the check, and leaves the text of its answer in the front of `out`: answers how many bytes, or refusal 1 for a list too short.
 pub fn print(bytes: &[u8], terms: &mut [u16], facts: &mut [u16], out: &mut [u8]) -> Transfer
-    ensures { λ r. ⌜ printing (now (bytes .entry)) (now (terms .entry)) (now (facts .entry)) (now (out .entry)) ≡ record { answer = transferOf r; terms = now (terms .exit); facts = now (facts .exit); out = now (out .exit) } ⌝ }
+    ensures { λ r. ⌜ Prints (now (bytes .entry)) (now (terms .entry)) (now (facts .entry)) (now (out .entry)) r (now (terms .exit)) (now (facts .exit)) (now (out .exit)) ⌝ }
 {
     if terms.len() < TERMS_FRONT {
         return Transfer::Refusal(1, 0);

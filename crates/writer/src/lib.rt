@@ -17,10 +17,10 @@ ghost use Rattle.model.specs.Lists.{numbersFrom, collect};
 ghost use Rattle.model.specs.Format.{many, atomBytes, atomsBytes, ruleBytes, content};
 ghost use Rattle.model.specs.Format as format;
 ghost use Rattle.model.specs.Limits.{predicateLimit, ruleLimit, factWidth};
-ghost use Rattle.model.specs.Form.{groupWidth, ruleWidth, rulesLength, spaced, atomAt, groupAt, ruleAt, decoded, writing};
+ghost use Rattle.model.specs.Form.{groupWidth, ruleWidth, rulesLength, spaced, atomAt, groupAt, ruleAt, decoded};
 ghost use Rattle.form_variables.specs.Sets.{setOf};
-ghost use Rattle.reader.specs.Transfer.{transferOf};
 ghost use Rattle.parsing.specs.Step.{value, none, atomSet, atomsSet, parsedRules};
+ghost use Rattle.writer.specs.Contract.{WritesBytes};
 ghost use Rattle.writer.specs.Writes.{Fits, Declared, Writes, WritesHead, Ends, Took, Small, aritiesIn, parsedContent, rulesBytes, rulesAt, contentRoom, bytesRoom, lengthened};
 
 // Room for the bytes of the longest rule set (specs/Writes, `bytesRoom`).
@@ -291,7 +291,7 @@ fn copy(from: &[u8], to: &mut [u8])
 // The bytes of the rule set that a form holds (document 01: book form); on a refusal the list stays as it was. A list shorter than these
 // bytes is refusal 1.
 pub fn write(form: &[u16], out: &mut [u8]) -> Transfer
-    ensures { λ r. ⌜ writing (now (form .entry)) (now (out .entry)) ≡ record { answer = transferOf r; bytes = now (out .exit) } ⌝ }
+    ensures { λ r. ⌜ WritesBytes (now (form .entry)) (now (out .entry)) r (now (out .exit)) ⌝ }
 {
     let mut local = [0u8; BYTES_ROOM];
     match put_content(form, &mut local[..]) {
