@@ -1,9 +1,13 @@
 -- Laws of terms: the test of equality is one, and lists of terms in their two forms agree, and numbers stay. Assumes nothing.
-use mathlib.Core.Path.{_≡_, refl, ap}
+use mathlib.Core.Path.{_≡_, refl, sym, ap, _∙_}
 use mathlib.Core.Bool.{Bool, true, false}
 use mathlib.Core.List.{List, [], _∷_, List·Memᴰ, _++_}
+use Prim.Native.Nat.{ℕ, _<_}
 use native.Mathlib.Decide.{ℕ-discrete}
-use Rattle.model.specs.Term.{Position-discrete, Term, Terms, none, more, Term-discrete, same, list, terms}
+use native.Mathlib.Omega.{arith}
+use lib.ListN.{length, getD}
+use lib.Seq.{ext-getD}
+use Rattle.model.specs.Term.{Position-discrete, Term, Terms, star, none, more, Term-discrete, same, list, terms}
 use Rattle.model.specs.Tables.{number}
 use Rattle.laws.proofs.Bools.{not-both}
 use Rattle.laws.proofs.Lists.{Decides, index-append}
@@ -33,6 +37,14 @@ pub terms-list : (ts : Terms) → terms (list ts) ≡ ts
 unfolding list terms
 terms-list none = refl
 terms-list (more t ts) = ap (more t) (terms-list ts)
+
+pub terms-injective : (us vs : Terms) → list us ≡ list vs → us ≡ vs
+terms-injective us vs e = sym (terms-list us) ∙ ap terms e ∙ terms-list vs
+
+-- terms that are the same place by place
+pub ext-terms : (ts us : Terms) → length (list ts) ≡ length (list us)
+    → ((k : ℕ) → k < length (list us) → getD (list ts) k star ≡ getD (list us) k star) → ts ≡ us
+ext-terms ts us e h = terms-injective ts us (ext-getD star (list ts) (list us) e (λ k l. h k (omega arith)))
 
 -- further terms leave the numbers of the first as they are
 pub number-append : (t : Term) (ts us : List Term) → List·Memᴰ t ts → number (ts ++ us) t ≡ number ts t

@@ -3,11 +3,10 @@
 use mathlib.Core.Path.{_≡_, refl, sym, _∙_, subst}
 use mathlib.Core.Bool.{true, false}
 use mathlib.Core.Logic.{_⊎_, inl, inr, ⊎-elim}
-use mathlib.Core.List.{List, [], _∷_, map, List·Memᴰ, List·Memᴰ·head, List·Memᴰ·tail, List·Memᴰ·not-nil, List·Memᴰ·append-cases, Memᴰ·cast}
+use mathlib.Core.List.{List, map, List·Memᴰ, List·Memᴰ·head, List·Memᴰ·tail, List·Memᴰ·not-nil, List·Memᴰ·append-cases, Memᴰ·cast}
 use Prim.Native.Nat.{ℕ, suc, _+_}
 use native.Mathlib.Omega.{arith}
 use lib.Dec.{eqb}
-use borrow.Author.Tests.{eqb-true, eqb-false}
 use Rattle.model.specs.Lists.{keep, collect, member, index}
 use Rattle.model.specs.Term.{Term, Terms, star, constant, apart, fresh, skolem, none, more, list, terms}
 use Rattle.model.specs.Rules.{Atom, Rule, Disjunct, inBody, frontier, existential, owns}
@@ -16,22 +15,9 @@ use Rattle.model.specs.Blocking.{template, origin, made, madeAll}
 use Rattle.laws.proofs.Bools.{case}
 use Rattle.laws.proofs.Lists.{collect-mem, map-mem}
 use Rattle.laws.proofs.Terms.{list-terms}
-use Rattle.laws.proofs.Triggers.{assign-here, assign-there, headTerm-universal, headTerm-existential, headFacts-mem}
+use Rattle.laws.proofs.Triggers.{assign-cases, instantiate-mem, headTerm-universal, headTerm-existential, headFacts-mem}
 use Rattle.laws_published.proofs.Rooted.{Rooted, rooted-not-star, rooted-not-fresh}
 use Rattle.laws_published.proofs.Subterms.{Inside, inside-argument, inside-deeper}
-
--- a value of a substitution is one of its terms, or ⋆ where it has none
-pub assign-cases : (vs : List ℕ) (m : List Term) (v : ℕ) → List·Memᴰ (assign vs m v) m ⊎ (assign vs m v ≡ star)
-unfolding assign
-assign-cases [] m v = inr refl
-assign-cases (u ∷ us) [] v = inr refl
-assign-cases (u ∷ us) (t ∷ m) v = go (assign-cases us m v) (case (eqb u v))
-  where
-    go : List·Memᴰ (assign us m v) m ⊎ (assign us m v ≡ star) → (eqb u v ≡ true) ⊎ (eqb u v ≡ false)
-        → List·Memᴰ (assign (u ∷ us) (t ∷ m) v) (t ∷ m) ⊎ (assign (u ∷ us) (t ∷ m) v ≡ star)
-    go below (inl e) = inl (List·Memᴰ·head (assign-here u v us t m (eqb-true u v e)))
-    go (inl k) (inr e) = inl (rw (assign-there u v us t m (eqb-false u v e)) (List·Memᴰ·tail k))
-    go (inr k) (inr e) = inr (assign-there u v us t m (eqb-false u v e) ∙ k)
 
 pub template-cases : (t : Term) (ts : Terms) (r : Rule) (v : ℕ)
     → List·Memᴰ (template t ts r v) (list ts) ⊎ ((template t ts r v ≡ star) ⊎ (template t ts r v ≡ fresh t v))
@@ -44,10 +30,6 @@ template-cases t ts r v = go (case (member v (frontier r))) (assign-cases (front
     go (inl e) (inl k) = inl (rw (e, template) k)
     go (inl e) (inr k) = inr (inl (rw (e, template) k))
     go (inr e) k = inr (inr (rw (e, template)))
-
-pub instantiate-mem : (σ : ℕ → Term) (a : Atom) {s : Term} → List·Memᴰ s (instantiate σ a .arguments) → (v : ℕ) × List·Memᴰ v (a .variables) × (s ≡ σ v)
-unfolding instantiate
-instantiate-mem σ a k = map-mem σ (a .variables) k
 
 -- each argument of s that has the occurrences of one variable as leaves is a proper subterm of t
 abbrev pub Below : Term → Term → Type 0

@@ -21,14 +21,13 @@ use Rattle.laws.proofs.Lists.{any-false, mem-all, mem-map, map-mem, collect-mem
 use Rattle.laws.proofs.Terms.{list-terms}
 use Rattle.laws.proofs.Facts.{termsOf-mem}
 use Rattle.laws.proofs.Rules.{entries-mem, mem-variablesOf, variablesOf-mem, mem-inBody, universal-distinct, frontier-mem, existential-mem}
-use Rattle.laws.proofs.Triggers.{assign-here, assign-there, assign-all, assign-mem, headTerm-existential, mem-headFacts}
+use Rattle.laws.proofs.Triggers.{assign-here, assign-there, assign-all, assign-mem, instantiate-argument, instantiate-mem, headTerm-existential, mem-headFacts}
 use Rattle.laws.proofs.WellFormed.{entry-well-formed, inBody-universal}
 use Rattle.laws_stages.proofs.Order.{frontier-shared}
-use Rattle.laws_published.proofs.Closure.{instantiate-argument}
 use Rattle.laws_published.proofs.Blocked.{apartly}
 use Rattle.laws_published.proofs.Rooted.{Rooted, rooted-inside, rooted-unique, Grounded, rename-root-rooted}
 use Rattle.laws_published.proofs.Subterms.{Inside, inside-size}
-use Rattle.laws_published.proofs.MadeBy.{instantiate-mem, Below, below-self, made-below}
+use Rattle.laws_published.proofs.MadeBy.{Below, below-self, made-below}
 use Rattle.laws_published.proofs.Invention.{closed-argument}
 
 -- `renamed`, variable by variable

@@ -14,7 +14,7 @@ use Rattle.model.specs.Triggers.{Fact, sameFact}
 use Rattle.model.specs.Tables.{number, termRow, factRow}
 use Rattle.laws.proofs.Bools.{not-both, and-true, true-and, both-ways}
 use Rattle.laws.proofs.Lists.{Decides, index-mem, getD-map}
-use Rattle.laws.proofs.Terms.{same-decides, terms-list, number-append}
+use Rattle.laws.proofs.Terms.{same-decides, terms-injective, number-append}
 use Rattle.laws.proofs.Facts.{fact-path, sameFact-decides}
 use Rattle.laws.proofs.Distinct.{Within}
 use Rattle.rows.specs.Tables.{sameRow}
@@ -69,9 +69,6 @@ pub data Shape (ts : List Term) : Term → Type 0 where
   is-apart : {p : Position} → Shape ts (apart p)
   is-fresh : {t : Term} {v : ℕ} → Shape ts (fresh t v)
   is-skolem : {f : ℕ} {us : Terms} → 1 ≤ f → length (list us) ≤ 8 → Within (list us) ts → Shape ts (skolem f us)
-
-terms-injective : (us vs : Terms) → list us ≡ list vs → us ≡ vs
-terms-injective us vs e = sym (terms-list us) ∙ ap Rattle.model.specs.Term.terms e ∙ terms-list vs
 
 cons-head : {x y : ℕ} {xs ys : List ℕ} → _≡_ {A = List ℕ} (x ∷ xs) (y ∷ ys) → x ≡ y
 cons-head e = ap (λ (l : List ℕ). getD l 0 0) e
