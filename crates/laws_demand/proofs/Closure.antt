@@ -24,7 +24,7 @@ module _ {b : RuleSet} (w : WellFormed b) (fs : List Fact) (done : datalogDone (
       let (c, j, s) = satisfied-mem fs σ (e .disjuncts) (datalogDone-satisfied w fs done m g σ l) in
       s f (subst (λ (x : Disjunct). List·Memᴰ f (headFacts σ x)) (datalog-only b m g i j) k)
 
-  module _ (h : Term → Term) (c : Commutes h) {base : List Fact} (start : (f : Fact) → List·Memᴰ f base → List·Memᴰ (mapFact h f) fs) where
+  module _ (h : Term → Term) (c : Commutes h) {base : Fact → Type 0} (start : (f : Fact) → base f → List·Memᴰ (mapFact h f) fs) where
     pub closed-map : {f : Fact} → Closed b base f → List·Memᴰ (mapFact h f) fs
     closed-map {f} (given m) = start f m
     closed-map {f} (derived e m i g s k o) =

@@ -48,11 +48,11 @@ pub record Followed (b : RuleSet) (listed : List Fact) (fs : List Fact) : Type 0
 pub step-free : {b : RuleSet} → WellFormed b → {a : Attempt} {s : State} {e : Entry} {d : Disjunct} → Applies b a s e d → Explained b (s .facts)
     → blocked (entries b) e (map (given a) (universal (e .rule))) ≡ false
 unfolding applicable
-step-free {b} w {a} {s} {e} h x = is-false (blocked (entries b) e (map (given a) (universal (e .rule)))) (λ k. stuck (blocked-sound b e (map (given a) (universal (e .rule))) k))
+step-free {b} w {a} {s} {e} h x = is-false (blocked (entries b) e (map (given a) (universal (e .rule)))) (λ k. stuck (blocked-sound b e (map (given a) (universal (e .rule))) (length-map (universal (e .rule)) (given a)) k))
   where
     stuck : Blocked b e (map (given a) (universal (e .rule))) → ⊥
     stuck k =
-        ⊎-elim (λ (i : datalog (e .rule) ≡ true). not-both (datalog (e .rule)) i (k .0))
+        ⊎-elim (λ (i : datalog (e .rule) ≡ true). not-both (datalog (e .rule)) i (k .2 .0))
         (λ (i : datalogDone (entries b) (s .facts) ≡ true).
         not-both (satisfied (s .facts) (given a) (e .disjuncts)) (blocked-satisfied w x i (applies-entry h) (given a) (applies-loaded h) k) (applies-unsatisfied h))
         (or-true (datalog (e .rule)) (datalogDone (entries b) (s .facts))

@@ -2,17 +2,18 @@
 use mathlib.Core.Path.{_≡_, refl, sym, ap, _∙_}
 use mathlib.Core.Bool.{true, false}
 use mathlib.Core.Logic.{_⊎_, inl, inr}
-use mathlib.Core.List.{List, [], _∷_, map, List·Memᴰ, map-map}
+use mathlib.Core.List.{List, [], _∷_, map, List·Memᴰ, Memᴰ·cast, map-map}
 use Prim.Native.Nat.{ℕ, suc, _+_}
 use lib.Dec.{eqb}
 use Rattle.model.specs.Lists.{index}
 use Rattle.model.specs.Term.{Term, star, skolem, terms}
-use Rattle.model.specs.Rules.{Atom, Disjunct, inBody, frontier, existential}
+use Rattle.model.specs.Rules.{Atom, Rule, Disjunct, inBody, frontier, existential}
 use Rattle.model.specs.Triggers.{Fact, assign, instantiate, headTerm, headFacts}
 use Rattle.laws.proofs.Bools.{case}
-use Rattle.laws.proofs.Lists.{mem-map}
+use Rattle.laws.proofs.Lists.{mem-map, map-mem}
 use Rattle.laws.proofs.Facts.{fact-path}
-use Rattle.laws.proofs.Triggers.{map-agree, headTerm-universal, headTerm-existential}
+use Rattle.laws.proofs.Rules.{mem-inBody, mem-variablesOf}
+use Rattle.laws.proofs.Triggers.{Loaded, Agree, map-agree, instantiate-agree, headTerm-universal, headTerm-existential}
 
 abbrev pub mapFact : (Term → Term) → Fact → Fact
 mapFact h f = record { predicate = f .predicate; arguments = map h (f .arguments) }
@@ -60,3 +61,10 @@ module _ (h : Term → Term) (c : Commutes h) where
 
   pub mem-map-headFacts : (σ : ℕ → Term) (d : Disjunct) {f : Fact} → List·Memᴰ f (headFacts σ d) → List·Memᴰ (mapFact h f) (headFacts (λ (v : ℕ). h (σ v)) d)
   mem-map-headFacts σ d m = rw (map-headFacts σ d) at (mem-map (mapFact h) m)
+
+  -- a body whose values are mapped to those of a loaded substitution is mapped into the set
+  pub mem-map-body : (r : Rule) (σ τ : ℕ → Term) → Agree r (λ (v : ℕ). h (σ v)) τ → {fs : List Fact} → Loaded r fs τ → {f : Fact}
+      → List·Memᴰ f (map (instantiate σ) (r .body)) → List·Memᴰ (mapFact h f) fs
+  mem-map-body r σ τ e l m =
+      let (a, i, p) = map-mem (instantiate σ) (r .body) m in
+      Memᴰ·cast (ap (mapFact h) p ∙ map-instantiate σ a ∙ instantiate-agree (λ (v : ℕ). h (σ v)) τ a (λ v k. e v (mem-inBody r (mem-variablesOf i k)))) (l a i)

@@ -1,5 +1,5 @@
 -- Within the limit of 1,024 facts the test set is the published closure, and the computed blocking test the published notion. Assumes nothing.
-use mathlib.Core.Path.{_≡_, sym, _∙_}
+use mathlib.Core.Path.{_≡_, refl, sym, _∙_, subst}
 use mathlib.Core.Bool.{Bool, true, false}
 use mathlib.Core.Logic.{_↔_, ⊎-elim}
 use mathlib.Core.List.{List, List·Memᴰ}
@@ -10,13 +10,15 @@ use Rattle.model.specs.Term.{Term}
 use Rattle.model.specs.Rules.{Rule, RuleSet, Disjunct, Entry, entries, universal, blockable}
 use Rattle.model.specs.Triggers.{Fact, present, assign, headFacts}
 use Rattle.model.specs.Blocking.{renamed, testBase, testSet, blocked}
-use Rattle.model.specs.Published.{Closed, Blocked}
+use Rattle.model.specs.Published.{Substitution, Apart, Closed, TestBase, Blocked}
 use Rattle.laws.proofs.Bools.{case, not-both}
 use Rattle.laws.proofs.Lists.{any-mem, mem-any, all-mem, mem-all}
 use Rattle.laws.proofs.Facts.{present-mem, mem-present}
 use Rattle.laws.proofs.Prefixes.{prefix-mem}
 use Rattle.laws.proofs.Rules.{blockable-not-datalog}
 use Rattle.laws_stages.proofs.Rounds.{testSet-begins, testSet-closes}
+use Rattle.laws_published.proofs.Renaming.{renamed-is-published}
+use Rattle.laws_published.proofs.TestBase.{testBase-is-published}
 use Rattle.laws_published.proofs.Closure.{saturate-sound, closed-within}
 
 -- the substitution of a trigger whose terms are renamed apart
@@ -40,31 +42,42 @@ only-blockable es e m h =
     ⊎-elim (λ (i : blockable (e .rule) ≡ true). i) (λ (i : blockable (e .rule) ≡ false). not-both (blocked es e m) h (blocked-unblockable es e m i)) (case (blockable (e .rule)))
 
 module _ (b : RuleSet) where
-  pub test-set-sound : (r : Rule) (m : List Term) {f : Fact} → List·Memᴰ f (testSet (entries b) r m)
-      → Closed b (testBase (entries b) r (renamed (universal r) m)) f
-  unfolding testSet
-  test-set-sound r m k = saturate-sound b (testBase (entries b) r (renamed (universal r) m)) 1025 k
+  module _ (r : Rule) (m u : List Term) (sub : Substitution r m) (a : Apart r m u) where
+    base-is-published : (g : Fact) → List·Memᴰ g (testBase (entries b) r (renamed (universal r) m)) ↔ TestBase b r (assign (universal r) u) g
+    base-is-published g = rw (renamed-is-published r m sub u .1 a) (testBase-is-published b r u (a .total) g)
 
-  pub test-set-complete : (r : Rule) (m : List Term) {f : Fact} → length (testSet (entries b) r m) ≤ 1024
-      → Closed b (testBase (entries b) r (renamed (universal r) m)) f → List·Memᴰ f (testSet (entries b) r m)
-  test-set-complete r m h c =
-      closed-within b (testBase (entries b) r (renamed (universal r) m)) (testSet (entries b) r m) (testSet-closes (entries b) r m h)
-      (λ g i. prefix-mem (testSet-begins (entries b) r m) i) c
+    test-set-sound : {f : Fact} → List·Memᴰ f (testSet (entries b) r m) → Closed b (TestBase b r (assign (universal r) u)) f
+    unfolding testSet
+    test-set-sound k =
+        saturate-sound b (TestBase b r (assign (universal r) u)) 1025 (testBase (entries b) r (renamed (universal r) m)) (λ g i. base-is-published g .0 i) k
 
-  pub test-set-is-closure : (r : Rule) (m : List Term) (f : Fact) → length (testSet (entries b) r m) ≤ 1024
-      → List·Memᴰ f (testSet (entries b) r m) ↔ Closed b (testBase (entries b) r (renamed (universal r) m)) f
-  test-set-is-closure r m f h = (test-set-sound r m, test-set-complete r m h)
+    test-set-complete : {f : Fact} → length (testSet (entries b) r m) ≤ 1024 → Closed b (TestBase b r (assign (universal r) u)) f
+        → List·Memᴰ f (testSet (entries b) r m)
+    test-set-complete h c =
+        closed-within b (TestBase b r (assign (universal r) u)) (testSet (entries b) r m) (testSet-closes (entries b) r m h)
+        (λ g i. prefix-mem (testSet-begins (entries b) r m) (base-is-published g .1 i)) c
 
-  pub blocked-sound : (e : Entry) (m : List Term) → blocked (entries b) e m ≡ true → Blocked b e m
-  blocked-sound e m h =
-      let n = only-blockable (entries b) e m h in
-      let s = testSet (entries b) (e .rule) m in
-      let (d, k, a) = any-mem (λ (d : Disjunct). all (present s) (headFacts (apartly (e .rule) m) d)) (e .disjuncts) (sym (blocked-blockable (entries b) e m n) ∙ h) in
-      (blockable-not-datalog (e .rule) n, d, k, λ f i. test-set-sound (e .rule) m (present-mem s f (all-mem (present s) a i)))
+    -- u stands for θ_u: there is one, and no other
+    pub test-set-is-closure : (f : Fact) → length (testSet (entries b) r m) ≤ 1024
+        → List·Memᴰ f (testSet (entries b) r m) ↔ Closed b (TestBase b r (assign (universal r) u)) f
+    test-set-is-closure f h = (test-set-sound, test-set-complete h)
 
-  pub blocked-complete : (e : Entry) (m : List Term) → blockable (e .rule) ≡ true → length (testSet (entries b) (e .rule) m) ≤ 1024 → Blocked b e m → blocked (entries b) e m ≡ true
-  blocked-complete e m j h (n, d, k, c) =
-      let s = testSet (entries b) (e .rule) m in
-      blocked-blockable (entries b) e m j
-      ∙ mem-any (λ (d : Disjunct). all (present s) (headFacts (apartly (e .rule) m) d)) k
-      (mem-all (present s) (headFacts (apartly (e .rule) m) d) (λ f i. mem-present (test-set-complete (e .rule) m h (c f i))))
+  module _ (e : Entry) (m : List Term) (sub : Substitution (e .rule) m) where
+    abbrev s : List Fact
+    s = testSet (entries b) (e .rule) m
+
+    pub blocked-sound : blocked (entries b) e m ≡ true → Blocked b e m
+    blocked-sound h =
+        let n = only-blockable (entries b) e m h in
+        let u = renamed (universal (e .rule)) m in
+        let a = renamed-is-published (e .rule) m sub u .0 refl in
+        let (d, k, i) = any-mem (λ (d : Disjunct). all (present s) (headFacts (apartly (e .rule) m) d)) (e .disjuncts) (sym (blocked-blockable (entries b) e m n) ∙ h) in
+        (u, a, (blockable-not-datalog (e .rule) n, d, k, λ f j. test-set-sound (e .rule) m u sub a (present-mem s f (all-mem (present s) i j))))
+
+    pub blocked-complete : blockable (e .rule) ≡ true → length (testSet (entries b) (e .rule) m) ≤ 1024 → Blocked b e m → blocked (entries b) e m ≡ true
+    blocked-complete j h (u, a, (n, d, k, c)) =
+        let q = renamed-is-published (e .rule) m sub u .1 a in
+        blocked-blockable (entries b) e m j
+        ∙ mem-any (λ (d : Disjunct). all (present s) (headFacts (apartly (e .rule) m) d)) k
+        (mem-all (present s) (headFacts (apartly (e .rule) m) d)
+        (λ f i. mem-present (test-set-complete (e .rule) m u sub a h (c f (subst (λ (x : List Term). List·Memᴰ f (headFacts (assign (universal (e .rule)) x) d)) q i)))))

@@ -59,7 +59,7 @@ dmfa-within b n h (step {f} e m i t l c o) =
       terms = m;
       known = i;
       trigger = mem-triggersIn b n e m t (λ a k. dmfa-within b n h (l a k));
-      free = is-false (blocked (entries b) e m) (λ k. c (blocked-sound b e m k));
+      free = is-false (blocked (entries b) e m) (λ k. c (blocked-sound b e m t k));
       fact = o;
     }))
 
@@ -111,10 +111,13 @@ module _ (b : RuleSet) (wf : WellFormed b) where
   -- on the triggers of a stage whose test sets are within their limit, the test decides the published notion
   pub blocked-is-published : (n : ℕ) (e : Entry) (m : List Term) → tooMany (entries b) (stage b n) ≡ false → List·Memᴰ e (entries b)
       → List·Memᴰ m (triggersIn (stage b n) e) → (blocked (entries b) e m ≡ true) ↔ Blocked b e m
-  blocked-is-published n e m few i k = (blocked-sound b e m, go (case (blockable (e .rule))))
+  blocked-is-published n e m few i k = (blocked-sound b e m total, go (case (blockable (e .rule))))
     where
+      total : Substitution (e .rule) m
+      total = triggersIn-mem (stage b n) e k .0 .total
+
       go : (blockable (e .rule) ≡ true) ⊎ (blockable (e .rule) ≡ false) → Blocked b e m → blocked (entries b) e m ≡ true
-      go (inl j) h = blocked-complete b e m j (test-sets-within (entries b) (stage b n) few i j k) h
+      go (inl j) h = blocked-complete b e m total j (test-sets-within (entries b) (stage b n) few i j k) h
       go (inr j) h = absurd (unblockable-free n e m i j k h)
 
   -- a stage is within the set if the test sets of all earlier ones are within their limit

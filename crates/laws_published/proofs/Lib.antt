@@ -1,3 +1,6 @@
+pub mod Renaming
+pub mod Made
+pub mod TestBase
 pub mod Closure
 pub mod Blocked
 pub mod Subterms

@@ -1,14 +1,14 @@
 -- Terms all of whose leaves are occurrences in one variable's term: renaming gives such terms. Assumes nothing.
-use mathlib.Core.Path.{_≡_, refl, sym, _∙_, subst}
+use mathlib.Core.Path.{_≡_, sym, _∙_, subst}
 use mathlib.Core.Logic.{_⊎_, inl, inr}
-use mathlib.Core.List.{List·Memᴰ, List·Memᴰ·eq-of-singleton, List·Memᴰ·head, List·Memᴰ·tail, List·Memᴰ·not-nil, List·Memᴰ·cases-cons}
-use Prim.Native.Nat.{ℕ, suc, _≤_}
+use mathlib.Core.List.{List·Memᴰ, List·Memᴰ·eq-of-singleton}
+use Prim.Native.Nat.{ℕ, _≤_, _<_}
 use native.Mathlib.Omega.{arith}
-use lib.ListN.{length}
+use lib.ListN.{length, getD}
 use Rattle.model.specs.Lists.{collect}
-use Rattle.model.specs.Term.{Position, root, child, Term, Terms, star, constant, apart, fresh, skolem, none, more, list}
-use Rattle.model.specs.Blocking.{rename, renameAll}
-use Rattle.laws.proofs.Lists.{collect-mem}
+use Rattle.model.specs.Term.{Position, root, child, Term, Terms, star, constant, apart, fresh, skolem, list}
+use Rattle.model.specs.Published.{Renamed, renamed-constant, renamed-skolem}
+use Rattle.laws.proofs.Lists.{mem-getD, getD-mem, collect-mem}
 use Rattle.laws_published.proofs.Subterms.{subterms, skolem-cases, Inside, inside-subterm}
 
 -- a position's variable
@@ -53,38 +53,12 @@ pub data Grounded : Term → Type 0 where
   grounded-fresh : {t : Term} {v : ℕ} → Grounded (fresh t v)
   grounded-skolem : {f : ℕ} {ts : Terms} → 1 ≤ length (list ts) → ((t : Term) → List·Memᴰ t (list ts) → Grounded t) → Grounded (skolem f ts)
 
--- the renamed arguments, each below a place of its own, from place k on
-pub renameAll-mem : (ts : Terms) (p : Position) (k : ℕ) {x : Term} → List·Memᴰ x (list (renameAll ts p k))
-    → (t : Term) × List·Memᴰ t (list ts) × ((j : ℕ) × (k ≤ j) × (x ≡ rename t (child p j)))
-unfolding renameAll list
-renameAll-mem none p k m = absurd (List·Memᴰ·not-nil m)
-renameAll-mem (more t ts) p k {x} m = go (λ i. renameAll-mem ts p (suc k) i) (List·Memᴰ·cases-cons m)
-  where
-    go : (List·Memᴰ x (list (renameAll ts p (suc k))) → (s : Term) × List·Memᴰ s (list ts) × ((j : ℕ) × (suc k ≤ j) × (x ≡ rename s (child p j))))
-        → (x ≡ rename t (child p k)) ⊎ List·Memᴰ x (list (renameAll ts p (suc k)))
-        → (s : Term) × List·Memᴰ s (list (more t ts)) × ((j : ℕ) × (k ≤ j) × (x ≡ rename s (child p j)))
-    go below (inl e) = (t, List·Memᴰ·head refl, (k, omega arith, e))
-    go below (inr i) = let (s, n, j) = below i in let l = j .1 in (s, List·Memᴰ·tail n, (j .0, omega arith, j .2))
-
-renameAll-some : (ts : Terms) (p : Position) (k : ℕ) → 1 ≤ length (list ts) → (x : Term) × List·Memᴰ x (list (renameAll ts p k))
-unfolding renameAll list
-renameAll-some none p k h = absurd (omega arith)
-renameAll-some (more t ts) p k h = (rename t (child p k), List·Memᴰ·head refl)
-
-rename-rooted : {t : Term} {w : ℕ} → Grounded t → (p : Position) → rootOf p ≡ w → Rooted w (rename t p)
-unfolding rename rootOf
-rename-rooted grounded-star p e = leaf p e
-rename-rooted grounded-constant p e = leaf p e
-rename-rooted grounded-apart p e = leaf p e
-rename-rooted grounded-fresh p e = leaf p e
-rename-rooted {w = w} (grounded-skolem {f = f} {ts = ts} h g) p e = go (λ t m j. rename-rooted (g t m) (child p j) e)
-  where
-    go : ((t : Term) → List·Memᴰ t (list ts) → (j : ℕ) → Rooted w (rename t (child p j))) → Rooted w (rename (skolem f ts) p)
-    go below =
-        let (x, i) = renameAll-some ts p 0 h in
-        node (λ y m. let (t, n, q) = renameAll-mem ts p 0 m in rw (q .2) (below t n (q .0))) x i
-
--- the renamed term of a variable
-pub rename-root-rooted : {t : Term} → Grounded t → (w : ℕ) → Rooted w (rename t (root w))
+pub renamed-rooted : {t s : Term} {p : Position} {w : ℕ} → Grounded t → Renamed t p s → rootOf p ≡ w → Rooted w s
 unfolding rootOf
-rename-root-rooted g w = rename-rooted g (root w) refl
+renamed-rooted g (renamed-constant {p = p} n) e = leaf p e
+renamed-rooted {w = w} (grounded-skolem some h) (renamed-skolem {f} {ts} {us} {p} l k) e =
+    go (λ i j. renamed-rooted (h (getD (list ts) i star) (getD-mem (list ts) i star j)) (k i j) e)
+  where
+    go : ((i : ℕ) → i < length (list ts) → Rooted w (getD (list us) i star)) → Rooted w (skolem f us)
+    go below =
+        node (λ y m. let (i, j, q) = mem-getD star m in subst (Rooted w) q (below i (omega arith))) (getD (list us) 0 star) (getD-mem (list us) 0 star (omega arith))
