@@ -154,21 +154,15 @@ module _ {form : List ℕ} {i : ℕ} (r : Held form × (i < length (rulesOf form
   pub rule-below : i < ruleLimit
   rule-below = omega (arith, few-rules form (r .0))
 
-  pub body-stands : {at : ℕ} → at ≡ bodyPlace i → GroupAt form at
-  body-stands e = subst (GroupAt form) (sym e) (body-group form (r .0) i (r .1))
-
-  pub body-read : {A : Type 0} (g : List Atom → A) {x : A} {at : ℕ} → at ≡ bodyPlace i → x ≡ g (groupOf form at) → x ≡ g (ruleOf form i .body)
-  body-read g e x = x ∙ ap (λ (p : ℕ). g (groupOf form p)) e ∙ ap g (sym (body-place form i (r .1)))
+  pub body-stands : {at : ℕ} → at ≡ bodyPlace i → GroupAt form at × (groupOf form at ≡ ruleOf form i .body)
+  body-stands e = rw e (body-group form (r .0) i (r .1), sym (body-place form i (r .1)))
 
 module _ {form : List ℕ} {i d : ℕ} (r : Held form × (i < length (rulesOf form)) × (d < length (ruleOf form i .head))) where
   pub disjunct-below : (i < ruleLimit) × (d < 4)
   disjunct-below = (omega (arith, few-rules form (r .0)), omega (arith, few-disjuncts form (r .0) i (r .1)))
 
-  pub disjunct-stands : {at : ℕ} → at ≡ disjunctPlace i d → GroupAt form at
-  disjunct-stands e = subst (GroupAt form) (sym e) (disjunct-group form (r .0) i d (r .1) (r .2))
-
-  pub disjunct-read : {A : Type 0} (g : List Atom → A) {x : A} {at : ℕ} → at ≡ disjunctPlace i d → x ≡ g (groupOf form at) → x ≡ g (disjunctOf form i d)
-  disjunct-read g e x = x ∙ ap (λ (p : ℕ). g (groupOf form p)) e ∙ ap g (sym (disjunct-place form i d (r .1) (r .2)))
+  pub disjunct-stands : {at : ℕ} → at ≡ disjunctPlace i d → GroupAt form at × (groupOf form at ≡ disjunctOf form i d)
+  disjunct-stands e = rw e (disjunct-group form (r .0) i d (r .1) (r .2), sym (disjunct-place form i d (r .1) (r .2)))
 
 module _ {form : List ℕ} {at : ℕ} (r : GroupAt form at) (k : ℕ) (l : k < length (groupOf form at)) {p : ℕ} (e : p ≡ atomPlace at k) where
   atom-same : getD (groupOf form at) k noAtom ≡ atomOf form p

@@ -2,12 +2,12 @@
 // Contracts: specs/Places.
 use crate::counts::arity;
 use crate::counts::atom_count;
+use crate::counts::body_group;
 use crate::counts::disjunct_count;
+use crate::counts::disjunct_group;
 use crate::counts::group_count;
 use crate::counts::wide;
 use crate::layout::atom_place;
-use crate::layout::body_place;
-use crate::layout::disjunct_place;
 ghost use mathlib.Core.Path.{_≡_};
 ghost use Prim.Native.Nat.{_<_};
 ghost use lib.ListN.{length};
@@ -90,21 +90,21 @@ pub fn body(form: &[u16], i: usize) -> [[u16; 5]; 4]
     requires { ⌜ Held (now form) × (i < length (rulesOf (now form))) ⌝ }
     ensures { λ r. ⌜ r ≡ atomRows (ruleOf (now (form .entry)) i .body) ⌝ }
 {
-    rows_at(form, body_place(i))
+    rows_at(form, body_group(form, i))
 }
 
 pub fn body_arities(form: &[u16], i: usize) -> [usize; 4]
     requires { ⌜ Held (now form) × (i < length (rulesOf (now form))) ⌝ }
     ensures { λ r. ⌜ r ≡ atomArities (ruleOf (now (form .entry)) i .body) ⌝ }
 {
-    arities_at(form, body_place(i))
+    arities_at(form, body_group(form, i))
 }
 
 pub fn body_predicates(form: &[u16], i: usize) -> [u16; 4]
     requires { ⌜ Held (now form) × (i < length (rulesOf (now form))) ⌝ }
     ensures { λ r. ⌜ r ≡ atomPredicates (ruleOf (now (form .entry)) i .body) ⌝ }
 {
-    predicates_at(form, body_place(i))
+    predicates_at(form, body_group(form, i))
 }
 
 // The atoms of disjunct `d` of rule `i`.
@@ -112,14 +112,14 @@ pub fn disjunct(form: &[u16], i: usize, d: usize) -> [[u16; 5]; 4]
     requires { ⌜ Held (now form) × (i < length (rulesOf (now form))) × (d < length (ruleOf (now form) i .head)) ⌝ }
     ensures { λ r. ⌜ r ≡ atomRows (disjunctOf (now (form .entry)) i d) ⌝ }
 {
-    rows_at(form, disjunct_place(i, d))
+    rows_at(form, disjunct_group(form, i, d))
 }
 
 pub fn disjunct_arities(form: &[u16], i: usize, d: usize) -> [usize; 4]
     requires { ⌜ Held (now form) × (i < length (rulesOf (now form))) × (d < length (ruleOf (now form) i .head)) ⌝ }
     ensures { λ r. ⌜ r ≡ atomArities (disjunctOf (now (form .entry)) i d) ⌝ }
 {
-    arities_at(form, disjunct_place(i, d))
+    arities_at(form, disjunct_group(form, i, d))
 }
 
 // All disjuncts of rule `i`, atom by atom.

@@ -47,12 +47,28 @@ pub fn group_count(form: &[u16], at: usize) -> usize
     wide(form[at])
 }
 
+// The place of the body of rule `i`, where a group of the form stands.
+pub fn body_group(form: &[u16], i: usize) -> usize
+    requires { ⌜ Held (now form) × (i < length (rulesOf (now form))) ⌝ }
+    ensures { λ r. ⌜ GroupAt (now (form .entry)) r × (groupOf (now (form .entry)) r ≡ ruleOf (now (form .entry)) i .body) ⌝ }
+{
+    body_place(i)
+}
+
+// The place of disjunct `d` of rule `i`, where a group of the form stands.
+pub fn disjunct_group(form: &[u16], i: usize, d: usize) -> usize
+    requires { ⌜ Held (now form) × (i < length (rulesOf (now form))) × (d < length (ruleOf (now form) i .head)) ⌝ }
+    ensures { λ r. ⌜ GroupAt (now (form .entry)) r × (groupOf (now (form .entry)) r ≡ disjunctOf (now (form .entry)) i d) ⌝ }
+{
+    disjunct_place(i, d)
+}
+
 // How many body atoms rule `i` has.
 pub fn body_count(form: &[u16], i: usize) -> usize
     requires { ⌜ Held (now form) × (i < length (rulesOf (now form))) ⌝ }
     ensures { λ r. ⌜ r ≡ length (ruleOf (now (form .entry)) i .body) ⌝ }
 {
-    group_count(form, body_place(i))
+    group_count(form, body_group(form, i))
 }
 
 // How many disjuncts rule `i` has.
@@ -69,5 +85,5 @@ pub fn atom_count(form: &[u16], i: usize, d: usize) -> usize
     requires { ⌜ Held (now form) × (i < length (rulesOf (now form))) × (d < length (ruleOf (now form) i .head)) ⌝ }
     ensures { λ r. ⌜ r ≡ length (disjunctOf (now (form .entry)) i d) ⌝ }
 {
-    group_count(form, disjunct_place(i, d))
+    group_count(form, disjunct_group(form, i, d))
 }

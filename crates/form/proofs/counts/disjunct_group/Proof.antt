@@ -1,0 +1,7 @@
+-- `form::counts::disjunct_group` meets its contract. Assumes nothing.
+use Rattle.form.proofs.Places.{disjunct-below, disjunct-stands}
+use Rattle.form.proofs.counts.disjunct_group.Statement.{statement}
+use Rattle.form.proofs.counts.disjunct_group.Tie as tie
+
+pub disjunct-group-spec : {M : Type 1} → statement M
+disjunct-group-spec = tie.close (tie.spec (λ c κs. disjunct-below (c .before .pre)) (λ c. disjunct-stands (c .before .before .pre) (c .disjunct-place .ensures)))
