@@ -8,37 +8,12 @@ use borrow.Author.Needs.{needs}
 use Rattle.outputs.proofs.skolem.place_argument.Statement.{statement}
 use Rattle.outputs.proofs.skolem.place_argument.Tie as tie
 
--- src/skolem.rt:42:8
-contains-requires : tie.Need-contains-requires
-contains-requires c κs = search needs
-
--- src/skolem.rt:43:18
 rank-requires : tie.Need-rank-requires
 rank-requires c κs = let s = c .before .before in (s .pre, sym (c .before .contains .ensures) ∙ c .if1 .taken)
 
--- src/skolem.rt:43:14
-add-next : tie.Need-add-next
-add-next c =
-    let s = c .before .before .before in
-    let e = c .rank .ensures in
-    let q = rank-below (s .args .frontier) (s .args .v) (s .pre) (sym (c .before .before .contains .ensures) ∙ c .before .if1 .taken) in
-    let b = below-length (s .args .frontier) (s .args .v) in
-    let h : s .args .v < 8 = s .pre in
-    record { fits = omega arith }
-
--- src/skolem.rt:43:9
-mul-next : tie.Need-mul-next
-mul-next c =
-    let s = c .before .before .before in
-    let e = c .rank .ensures in
-    let q = rank-below (s .args .frontier) (s .args .v) (s .pre) (sym (c .before .before .contains .ensures) ∙ c .before .if1 .taken) in
-    let b = below-length (s .args .frontier) (s .args .v) in
-    let h : s .args .v < 8 = s .pre in
-    record { fits = omega arith }
-
--- src/skolem.rt:43:9
-array-write-next : tie.Need-array-write-next
-array-write-next c =
+-- at most eight variables are in a set
+below : (c : tie.After-rank) → c .rank .result < 8
+below c =
     let s = c .before .before .before in
     let e = c .rank .ensures in
     let q = rank-below (s .args .frontier) (s .args .v) (s .pre) (sym (c .before .before .contains .ensures) ∙ c .before .if1 .taken) in
@@ -46,18 +21,25 @@ array-write-next c =
     let h : s .args .v < 8 = s .pre in
     omega arith
 
--- src/skolem.rt:37:1
+add-next : tie.Need-add-next
+add-next c = let b = below c in record { fits = omega arith }
+
+mul-next : tie.Need-mul-next
+mul-next c = let b = below c in record { fits = omega arith }
+
+array-write-next : tie.Need-array-write-next
+array-write-next c = let b = below c in omega arith
+
 returns : tie.Need-returns
 returns c =
     let s = c .before .before .before in
     ap (λ (k : ℕ). set (s .args .row) (2 + k) (s .args .number)) (c .rank .ensures)
     ∙ sym (placed-some (s .args .row) (s .args .frontier) (s .args .v) (s .args .number) (sym (c .before .before .contains .ensures) ∙ c .before .if1 .taken))
 
--- src/skolem.rt:37:1
 returns-2 : tie.Need-returns-2
 returns-2 c = let s = c .before .before in sym (placed-none (s .args .row) (s .args .frontier) (s .args .v) (s .args .number) (sym (c .before .contains .ensures) ∙ c .if1 .left))
 
 pub place-argument-spec : {M : Type 1} → statement M
 place-argument-spec =
     tie.close
-    (tie.spec contains-requires rank-requires add-next mul-next array-write-next returns returns-2)
+    (tie.spec (λ c κs. search needs) rank-requires add-next mul-next array-write-next returns returns-2)
