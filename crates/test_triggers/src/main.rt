@@ -1,17 +1,21 @@
 // Lists the triggers of small bodies over small sets of facts: a line for each, with the term number of each of the eight variables.
 use libc::STDOUT_FILENO;
 use new_triggers::Extent;
-ghost use Prim.Native.Nat.{_≤_};
-ghost use Rattle.laws_triggers.specs.Match.{Searchable};
+ghost use Rattle.test_triggers.specs.Cases.{Case};
 
 // Room for the index of a few facts.
 const INDEX_ROOM: usize = 2600;
+
+// The last digit of a number.
+fn digit(x: u16) -> u8 {
+    b'0' + (x % 10) as u8
+}
 
 fn print_assignment(assignment: [u16; 8]) {
     let mut line = [b' '; 16];
     let mut i = 0;
     while i < 8 {
-        line[2 * i] = b'0' + (assignment[i] % 10) as u8;
+        line[2 * i] = digit(assignment[i]);
         i += 1;
     }
     line[15] = b'\n';
@@ -26,7 +30,7 @@ fn print_triggers(
     count: usize,
     terms: u16,
 )
-    requires { ⌜ Searchable (record { atoms = body; arities = arities; count = atoms }) (now facts) count terms × (count ≤ 8) ⌝ }
+    requires { ⌜ Case (record { atoms = body; arities = arities; count = atoms }) (now facts) count terms ⌝ }
 {
     let mut index = [0u16; INDEX_ROOM];
     fact_index::extend(facts, 0, count, &mut index);

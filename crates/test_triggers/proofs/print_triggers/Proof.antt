@@ -11,6 +11,7 @@ use Rattle.fact_index.proofs.Entering.{indexed-zeros}
 use Rattle.cursor.specs.Plan.{bodyOf}
 use Rattle.cursor.proofs.Plans.{all-planned-body}
 use Rattle.new_triggers.specs.Walk.{Walks, aheadIn}
+use Rattle.test_triggers.proofs.Cases.{case-searchable}
 use Rattle.test_triggers.proofs.print_triggers.Statement.{statement}
 use Rattle.test_triggers.proofs.print_triggers.Tie as tie
 
@@ -23,14 +24,14 @@ abbrev μ-loop : tie.MeasureT-loop
 extend-requires : tie.Need-extend-requires Inv-loop μ-loop
 extend-requires c κs =
     let s = c .before .before in
-    (indexed-zeros (s .args .facts .now) 2600 (omega arith), omega arith, record { few = omega arith; rows = s .pre .0 .room; room = search needs })
+    (indexed-zeros (s .args .facts .now) 2600 (omega arith), omega arith, record { few = omega arith; rows = s .pre .room; room = search needs })
 
 searchable : (p : tie.After-plan-of-all Inv-loop μ-loop)
     → Searchable (bodyOf (p .before .before .before .before .before .args .body) (p .plan-of-all .result)) (p .before .before .before .before .before .args .facts .now)
     (p .before .before .before .before .before .args .count) (p .before .before .before .before .before .args .terms)
 searchable p =
     let s = p .before .before .before .before .before in
-    subst (λ (b : Body). Searchable b (s .args .facts .now) (s .args .count) (s .args .terms)) (sym (all-planned-body (p .plan-of-all .ensures))) (s .pre .0)
+    subst (λ (b : Body). Searchable b (s .args .facts .now) (s .args .count) (s .args .terms)) (sym (all-planned-body (p .plan-of-all .ensures))) (case-searchable (s .pre))
 
 begin-requires : tie.Need-begin-requires Inv-loop μ-loop
 begin-requires c κs =
@@ -81,7 +82,7 @@ print-triggers-spec =
     μ-loop
     (λ c. search needs)
     extend-requires
-    (λ c κs. search needs)
+    (λ c κs. case-searchable (c .before .before .before .before .pre) .body)
     (λ c. search needs)
     begin-requires
     loop-holds
