@@ -8,20 +8,6 @@ use test_support::numbers::MARK;
 use test_support::numbers::is_marked;
 use test_support::say;
 
-fn same(a: &[u16], b: &[u16]) -> bool {
-    if a.len() != b.len() {
-        return false;
-    }
-    let mut k = 0;
-    while k < a.len() {
-        if a[k] != b[k] {
-            return false;
-        }
-        k += 1;
-    }
-    true
-}
-
 // Whether a form of marks is as a book that was read leaves it: its front what a form of zeros becomes, and marks beyond.
 fn is_filled(bytes: &[u8], form: &[u16]) -> bool {
     if form.len() < LENGTH {
@@ -29,7 +15,7 @@ fn is_filled(bytes: &[u8], form: &[u16]) -> bool {
     }
     let mut other = [0u16; LENGTH];
     read(bytes, &mut other[..]);
-    if !same(&other[..], &form[0..LENGTH]) {
+    if !tables::row_stands_at(form, 0, &other[..]) {
         return false;
     }
     is_marked(&form[LENGTH..])
@@ -88,7 +74,7 @@ pub fn differs(book: &[u8], numbers: &[u8]) -> bool {
     put_file(numbers, &mut expected[..]);
     let mut found = [MARK; LENGTH];
     read_file(book, &mut found[..]);
-    if same(&found[..], &expected[..]) {
+    if tables::row_stands_at(&found[..], 0, &expected[..]) {
         return false;
     }
     say::note(book, b"another form");

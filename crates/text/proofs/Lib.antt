@@ -1,3 +1,4 @@
+pub mod Copied
 pub mod Writing
 pub mod Digits
 pub mod Lines

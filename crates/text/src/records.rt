@@ -1,5 +1,6 @@
 // The lines of a text: its first line, and those of the terms, the facts and the cyclic term. Every function writes into `out` from a place on,
 // or at its front, and answers the place behind what it wrote. The contracts cite specs/Writing, specs/Legible and specs/Lines.
+use crate::words::write_newline;
 use crate::words::write_number;
 use crate::words::write_numbers;
 use crate::words::write_word;
@@ -23,8 +24,7 @@ fn write_record(head: u16, arguments: &[u16], out: &mut [u8], at: usize) -> usiz
 {
     let behind_head = write_number(head as usize, &mut *out, at);
     let behind_arguments = write_numbers(arguments, &mut *out, behind_head);
-    out[behind_arguments] = b'\n';
-    behind_arguments + 1
+    write_newline(&mut *out, behind_arguments)
 }
 
 // The Skolem function and the arguments of term `i`, and a newline.
@@ -136,8 +136,7 @@ pub fn write_header(word: &[u8], stage: usize, f: usize, t: usize, out: &mut [u8
 {
     let behind_facts = write_start(word, stage, f, &mut *out);
     let end = write_number(t, &mut *out, behind_facts);
-    out[end] = b'\n';
-    end + 1
+    write_newline(&mut *out, end)
 }
 
 // The line of a refusal: its number and its place.
@@ -146,6 +145,5 @@ pub fn write_refusal(number: usize, place: usize, out: &mut [u8]) -> usize
     ensures { λ r. ⌜ Writes (line refusedWord (number ∷ place ∷ [])) 0 (now (out .entry)) (now (out .exit)) r ⌝ }
 {
     let end = write_start(b"refused", number, place, &mut *out);
-    out[end] = b'\n';
-    end + 1
+    write_newline(&mut *out, end)
 }

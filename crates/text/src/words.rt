@@ -1,7 +1,7 @@
 // Words and numbers of a text. Every function writes into `out` from a place on and answers the place behind what it wrote. The contracts
 // cite specs/Writing.
 ghost use mathlib.Core.Path.{_≡_};
-ghost use mathlib.Core.List.{_∷_};
+ghost use mathlib.Core.List.{[], _∷_};
 ghost use lib.ListN.{length};
 ghost use Rattle.model.specs.Text.{decimal};
 ghost use Rattle.text.specs.Writing.{Room, Writes};
@@ -63,10 +63,13 @@ pub fn write_word(word: &[u8], out: &mut [u8], at: usize) -> usize
     requires { ⌜ Room (now word) at (now out) ⌝ }
     ensures { λ r. ⌜ Writes (now (word .entry)) at (now (out .entry)) (now (out .exit)) r ⌝ }
 {
-    let mut i = 0;
-    while i < word.len() {
-        out[at + i] = word[i];
-        i += 1;
-    }
-    at + i
+    at + bytes::copy(word, &mut out[at..])
+}
+
+pub fn write_newline(out: &mut [u8], at: usize) -> usize
+    requires { ⌜ Room (10 ∷ []) at (now out) ⌝ }
+    ensures { λ r. ⌜ Writes (10 ∷ []) at (now (out .entry)) (now (out .exit)) r ⌝ }
+{
+    out[at] = b'\n';
+    at + 1
 }

@@ -276,18 +276,6 @@ fn put_length(end: usize, out: &mut [u8])
     out[3] = ((end - 4) % 256) as u8;
 }
 
-// Bytes over the front of a longer list.
-fn copy(from: &[u8], to: &mut [u8])
-    requires { ⌜ length (now from) ≤ length (now to) ⌝ }
-    ensures { λ _. ⌜ now (to .exit) ≡ now (from .entry) ++ drop (length (now (from .entry))) (now (to .entry)) ⌝ }
-{
-    let mut k = 0;
-    while k < from.len() {
-        to[k] = from[k];
-        k += 1;
-    }
-}
-
 // The bytes of the rule set that a form holds (document 01: book form); on a refusal the list stays as it was. A list shorter than these
 // bytes is refusal 1.
 pub fn write(form: &[u16], out: &mut [u8]) -> Transfer
@@ -300,7 +288,7 @@ pub fn write(form: &[u16], out: &mut [u8]) -> Transfer
                 return Transfer::Refusal(1, 0);
             }
             put_length(end, &mut local[..]);
-            copy(&local[..end], out);
+            bytes::copy(&local[..end], out);
             Transfer::Done(end)
         }
         Step::Bad(refusal, place) => Transfer::Refusal(refusal, place),

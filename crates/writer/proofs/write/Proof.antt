@@ -5,6 +5,7 @@ use mathlib.Core.List.{List, [], _++_, append-nil}
 use Prim.Native.Nat.{ℕ, _≤_, _-_}
 use native.Mathlib.Omega.{arith}
 use lib.ListN.{length, take, drop}
+use lib.Seq.{take-all}
 use Rattle.model.specs.Format.{good, ruleSet, bytesOf}
 use Rattle.model.specs.Form.{decoded}
 use Rattle.laws_format.proofs.Bytes.{bytesOf-length, drop-bytesOf}
@@ -70,6 +71,9 @@ module _ (c : tie.After-put-length) where
       ap (λ (xs : List ℕ). length (take end xs)) whole-is
       ∙ front-length (form (c .before .before .before .before .before .before .before)) (local (c .before .before .before .before .before .before .before)) end (stored (c .before .before .before .before)) (local-length (c .before .before .before .before .before .before .before)) (bounds (c .before .before .before .before) .1) (ended (c .before .before .before .before) .1)
 
+  front-all : take (length (take end whole)) (take end whole) ≡ take end whole
+  front-all = take-all (length (take end whole)) (take end whole) (omega arith)
+
 returns : tie.Need-returns
 returns c = let h = ended (c .before .before) in writing-short _ _ _ _ (h .0) (let e = h .1 in omega arith)
 
@@ -88,7 +92,7 @@ copy-requires c κs = let l = front (c .before .before .before) in let h = c .be
 returns-2 : tie.Need-returns-2
 returns-2 c =
     write-whole (form (c .before .before .before .before .before .before .before .before .before .before .before .before .before)) (local (c .before .before .before .before .before .before .before .before .before .before .before .before .before)) _ (stored (c .before .before .before .before .before .before .before .before .before .before)) (local-length (c .before .before .before .before .before .before .before .before .before .before .before .before .before)) (bounds (c .before .before .before .before .before .before .before .before .before .before) .1) (ended (c .before .before .before .before .before .before .before .before .before .before) .1) (parsed (c .before .before .before .before .before .before .before .before .before .before) .result) _ _ (ended (c .before .before .before .before .before .before .before .before .before .before) .0) (c .before .before .before .before .before .before .before .before .if1 .left)
-    (subst (λ (xs : List ℕ). c .before .before .copy .last .1 .0 ≡ take (end (c .before .before .before .before .before .before)) xs ++ drop (length (take (end (c .before .before .before .before .before .before)) xs)) (c .before .before .before .before .before .before .before .before .before .before .before .before .before .before .before .before .before .args .out .now)) (whole-is (c .before .before .before .before .before .before)) (c .before .before .copy .ensures))
+    (subst (λ (xs : List ℕ). c .before .before .copy .last .1 .0 ≡ take (end (c .before .before .before .before .before .before)) xs ++ drop (length (take (end (c .before .before .before .before .before .before)) xs)) (c .before .before .before .before .before .before .before .before .before .before .before .before .before .before .before .before .before .args .out .now)) (whole-is (c .before .before .before .before .before .before)) (rw (front-all (c .before .before .before .before .before .before)) at (c .before .before .copy .ensures .1)))
 
 returns-3 : tie.Need-returns-3
 returns-3 c = writing-bad _ _ _ _ (content-bad (form (c .before .before .before .before)) _ _ (step-bad none _ _ _ (sym (c .before .refusal .given .1) ∙ ran (c .before .before .before .before) .answer)))

@@ -1,11 +1,11 @@
 -- `text::records::write_refusal` meets its contract: a word, two numbers and a newline. Assumes nothing.
 use mathlib.Core.Path.{_≡_, ap, _∙_}
 use mathlib.Core.List.{[], _∷_, _++_}
-use Prim.Native.Nat.{_+_, _<_}
+use Prim.Native.Nat.{_+_}
 use native.Mathlib.Omega.{arith}
 use lib.ListN.{length, length-append}
 use Rattle.model.specs.Text.{line, refusedWord}
-use Rattle.text.proofs.Writing.{writes-byte, writes-append}
+use Rattle.text.proofs.Writing.{writes-append}
 use Rattle.text.proofs.Lines.{line-ended}
 use borrow.Author.Needs.{needs}
 use Rattle.text.proofs.records.write_refusal.Statement.{statement}
@@ -18,10 +18,12 @@ length-line s =
     ap length (line-ended refusedWord (s .args .number ∷ s .args .place ∷ []))
     ∙ length-append (refusedWord ++ spaced (s .args .number ∷ s .args .place ∷ [])) (10 ∷ [])
 
--- where the newline is written
-room : (c : tie.After-slice-known2) → c .before .before .write-start .result < length (c .before .before .write-start .last .1 .1 .1 .0)
-room c =
-    let w = c .before .before in
+write-start-requires : tie.Need-write-start-requires
+write-start-requires c κs = let h = length-line (c .before .before .before) in let p = c .before .before .before .pre in omega arith
+
+write-newline-requires : tie.Need-write-newline-requires
+write-newline-requires c κs =
+    let w = c .before .before .before in
     let s = w .before .before .before .before in
     let h = length-line s in
     let e = w .write-start .ensures .next in
@@ -29,32 +31,11 @@ room c =
     let p = s .pre in
     omega arith
 
-write-start-requires : tie.Need-write-start-requires
-write-start-requires c κs = let h = length-line (c .before .before .before) in let p = c .before .before .before .pre in omega arith
-
-slice-write-out : tie.Need-slice-write-out
-slice-write-out c = room c
-
-add-result : tie.Need-add-result
-add-result c =
-    let h = room c in
-    let l = c .before .before .write-start .kept .1 .1 .1 .0 in
-    omega arith
-
 returns : tie.Need-returns
 returns c =
-    let w = c .before .before in
+    let w = c .before .before .before .before .before .before in
     let a = w .before .before .before .before .args in
-    rw (line-ended refusedWord (a .number ∷ a .place ∷ []))
-    (writes-append (w .write-start .ensures) (writes-byte 10 (w .write-start .result) (w .write-start .last .1 .1 .1 .0) (room c)) (omega arith))
+    rw (line-ended refusedWord (a .number ∷ a .place ∷ [])) (writes-append (w .write-start .ensures) (c .before .before .write-newline .ensures) (omega arith))
 
 pub write-refusal-spec : {M : Type 1} → statement M
-write-refusal-spec =
-    tie.close
-    (tie.spec
-    (λ c. search needs)
-    write-start-requires
-    slice-write-out
-    add-result
-    (λ c. search needs)
-    returns)
+write-refusal-spec = tie.close (tie.spec (λ c. search needs) write-start-requires write-newline-requires (λ c. search needs) returns)
