@@ -11,7 +11,8 @@ ghost use Rattle.model.specs.Limits.{termsFront, factsFront};
 ghost use Rattle.model.specs.Tables.{checked};
 ghost use Rattle.reader.specs.Transfer.{transferOf};
 ghost use Rattle.report.specs.Printing.{printing};
-ghost use Rattle.embed.specs.Numbers.{ofChecked, ofReading, ofWriting, ofPrinting, transferNumber, transferValue};
+ghost use Rattle.dmfa.specs.Verdict.{meant};
+ghost use Rattle.embed.specs.Numbers.{ofChecked, ofReading, ofWriting, ofPrinting, verdictNumber, verdictValues, transferNumber, transferValue};
 
 // The number that is returned for an answer, and the one that is left in `value`.
 fn transfer(answer: Transfer, value: &mut usize) -> usize
@@ -29,17 +30,10 @@ fn transfer(answer: Transfer, value: &mut usize) -> usize
     }
 }
 
-// Checks a rule set, and leaves the last stage in the caller's tables.
-#[no_mangle]
-pub extern "C" fn rulfjen_check(
-    book: &[u8],
-    terms: &mut [u16],
-    facts: &mut [u16],
-    answer: &mut [usize; 3],
-) -> usize
-    ensures { λ r. ⌜ ofChecked (checked (now (book .entry)) (now (terms .entry)) (now (facts .entry))) ≡ record { number = r; answer = now (answer .exit); terms = now (terms .exit); facts = now (facts .exit) } ⌝ }
+// The number that is returned for a verdict, and the three that are left in `answer`.
+fn judgement(verdict: Verdict, answer: &mut [usize; 3]) -> usize
+    ensures { λ r. ⌜ (r ≡ verdictNumber (meant verdict)) × (now (answer .exit) ≡ verdictValues (meant verdict)) ⌝ }
 {
-    let verdict = dmfa::check(book, &mut *terms, &mut *facts);
     match verdict {
         Verdict::Accepted(stage, f, t) => {
             *answer = [stage, f, t];
@@ -54,6 +48,20 @@ pub extern "C" fn rulfjen_check(
             2
         }
     }
+}
+
+// Checks a rule set, and leaves the last stage in the caller's tables.
+#[no_mangle]
+pub extern "C" fn rulfjen_check(
+    book: &[u8],
+    terms: &mut [u16],
+    facts: &mut [u16],
+    answer: &mut [usize; 3],
+) -> usize
+    ensures { λ r. ⌜ ofChecked (checked (now (book .entry)) (now (terms .entry)) (now (facts .entry))) ≡ record { number = r; answer = now (answer .exit); terms = now (terms .exit); facts = now (facts .exit) } ⌝ }
+{
+    let verdict = dmfa::check(book, &mut *terms, &mut *facts);
+    judgement(verdict, &mut *answer)
 }
 
 // Reads a rule set into a form.
