@@ -60,36 +60,19 @@ module _ (f : ℕ → List ℕ) where
       in
       omega arith
 
--- a record's part of a line: its numbers and the newline
-pub length-record : (head : ℕ) (ns : List ℕ) → length (spaced (head ∷ ns) ++ (10 ∷ [])) ≡ suc (length (decimal head) + length (spaced ns) + 1)
-unfolding collect
-length-record head ns = simp length-append (omega arith)
-
 -- a line in the parts in which it is written
 
 pub line-parts : (word ns : List ℕ) → line word ns ≡ word ++ (spaced ns ++ (10 ∷ []))
 unfolding line
 line-parts word ns = refl
 
-pub length-parts : (word ns : List ℕ) → length (line word ns) ≡ length word + length (spaced ns ++ (10 ∷ []))
-length-parts word ns = ap length (line-parts word ns) ∙ length-append word (spaced ns ++ (10 ∷ []))
-
 pub line-numbered : (word : List ℕ) (n : ℕ) (ns : List ℕ) → line word (n ∷ ns) ≡ word ++ ((32 ∷ decimal n) ++ (spaced ns ++ (10 ∷ [])))
 unfolding line collect
 line-numbered word n ns = ap (λ (xs : List ℕ). word ++ xs) (append-assoc (32 ∷ decimal n) (spaced ns) (10 ∷ []))
 
-pub length-numbered : (word : List ℕ) (n : ℕ) (ns : List ℕ) → length (line word (n ∷ ns)) ≡ length word + (suc (length (decimal n)) + length (spaced ns ++ (10 ∷ [])))
-length-numbered word n ns =
-    ap length (line-numbered word n ns)
-    ∙ length-append word ((32 ∷ decimal n) ++ (spaced ns ++ (10 ∷ [])))
-    ∙ ap (λ (k : ℕ). length word + k) (length-append (32 ∷ decimal n) (spaced ns ++ (10 ∷ [])))
-
 pub spaced-two : (a b : ℕ) → spaced (a ∷ b ∷ []) ≡ (32 ∷ decimal a) ++ (32 ∷ decimal b)
 unfolding collect
 spaced-two a b = ap (λ (xs : List ℕ). (32 ∷ decimal a) ++ xs) (append-nil (32 ∷ decimal b))
-
-pub length-two : (a b : ℕ) → length (spaced (a ∷ b ∷ [])) ≡ suc (length (decimal a)) + suc (length (decimal b))
-length-two a b = ap length (spaced-two a b) ∙ length-append (32 ∷ decimal a) (32 ∷ decimal b)
 
 pub line-ended : (word ns : List ℕ) → line word ns ≡ (word ++ spaced ns) ++ (10 ∷ [])
 line-ended word ns = line-parts word ns ∙ sym (append-assoc word (spaced ns) (10 ∷ []))
@@ -101,9 +84,6 @@ line-header word n f t =
     ∙ ap (λ (xs : List ℕ). (word ++ xs) ++ (10 ∷ []))
     (collect-append (λ (k : ℕ). 32 ∷ decimal k) (n ∷ f ∷ []) (t ∷ []) ∙ ap (λ (xs : List ℕ). spaced (n ∷ f ∷ []) ++ xs) (append-nil (32 ∷ decimal t)))
     ∙ ap (λ (xs : List ℕ). xs ++ (10 ∷ [])) (sym (append-assoc word (spaced (n ∷ f ∷ [])) (32 ∷ decimal t)))
-
-pub length-header : (word : List ℕ) (n f t : ℕ) → length (line word (n ∷ f ∷ t ∷ [])) ≡ length (word ++ spaced (n ∷ f ∷ [])) + suc (length (decimal t)) + 1
-length-header word n f t = ap length (line-header word n f t) ∙ simp length-append
 
 pub records-parts : (arities terms facts : List ℕ) (f t : ℕ) → records arities terms facts f t ≡ termLines terms t ++ factLines arities facts f
 unfolding records

@@ -8,7 +8,7 @@ use native.Mathlib.Omega.{arith}
 use lib.ListN.{length, take, drop, set, length-append, length-take, take-append-drop}
 use lib.Seq.{take-at, drop-at, drop-drop, length-take-le, append-snoc, set-append-left, set-split, take-set-lt, drop-set-lt}
 use Rattle.tables.specs.Rows.{written}
-use Rattle.text.specs.Writing.{Writes}
+use Rattle.text.specs.Writing.{Room, Writes}
 
 pub written-none : (at : ℕ) (out : List ℕ) → out ≡ written [] at out
 unfolding written
@@ -37,6 +37,14 @@ written-append s s′ at out h =
 -- nothing is written
 pub writes-none : (at : ℕ) (out : List ℕ) → Writes [] at out out at
 writes-none at out = record { left = written-none at out; next = sym (add-zero at) }
+
+-- the room for two writes is room for the first, and behind it for the second
+pub room-first : (s s′ : List ℕ) (at : ℕ) (out : List ℕ) → Room (s ++ s′) at out → Room s at out
+room-first s s′ at out p = omega (arith, length-append s s′)
+
+pub room-behind : {s : List ℕ} (s′ : List ℕ) {at : ℕ} {out out′ : List ℕ} {mid : ℕ} → Writes s at out out′ mid → Room (s ++ s′) at out → length out′ ≡ length out
+    → Room s′ mid out′
+room-behind {s} s′ w p k = let e = w .next in omega (arith, length-append s s′)
 
 -- one write behind another
 pub writes-append : {s s′ : List ℕ} {at : ℕ} {out out′ out″ : List ℕ} {mid end : ℕ} → Writes s at out out′ mid → Writes s′ mid out′ out″ end

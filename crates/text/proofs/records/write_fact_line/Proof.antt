@@ -4,10 +4,10 @@ use mathlib.Core.List.{List, [], _∷_, _++_}
 use Prim.Native.Nat.{ℕ, _+_, _-_, _*_, _≤_, _<_}
 use native.Mathlib.Omega.{arith}
 use lib.ListN.{length, getD, take, drop}
-use Rattle.model.specs.Text.{line, factWord, factNumbers}
+use Rattle.model.specs.Text.{factWord, factNumbers}
 use Rattle.text.specs.Writing.{Room}
-use Rattle.text.proofs.Writing.{writes-append}
-use Rattle.text.proofs.Lines.{line-parts, length-parts}
+use Rattle.text.proofs.Writing.{room-first, room-behind, writes-append}
+use Rattle.text.proofs.Lines.{line-parts}
 use Rattle.text.proofs.Rows.{factNumbers-part}
 use borrow.Author.Needs.{needs}
 use Rattle.text.proofs.records.write_fact_line.Statement.{statement}
@@ -17,8 +17,8 @@ use Rattle.laws_tables.specs.Lines.{spaced}
 abbrev numbers : tie.Start → List ℕ
 numbers s = factNumbers (s .args .arities .now) (s .args .facts .now) (s .args .i)
 
-length-line : (s : tie.Start) → length (line factWord (numbers s)) ≡ 4 + length (spaced (numbers s) ++ (10 ∷ []))
-length-line s = length-parts factWord (numbers s)
+roomy : (s : tie.Start) → Room (factWord ++ (spaced (numbers s) ++ (10 ∷ []))) (s .args .at) (s .args .out .now)
+roomy s = rw (line-parts factWord (numbers s)) at (s .pre .1)
 
 predicate : (s : tie.Start) → getD (s .args .facts .now) (s .args .i * 5) 0 < length (s .args .arities .now)
 predicate s = s .pre .0 .predicate (s .args .i) (omega arith)
@@ -35,7 +35,9 @@ part : (s : tie.Start)
 part s = factNumbers-part (s .args .arities .now) (s .args .facts .now) (s .args .i) _ refl (arity s)
 
 write-word-requires : tie.Need-write-word-requires
-write-word-requires c κs = let h = length-line (c .before .before .before .before .before) in omega arith
+write-word-requires c κs =
+    let s = c .before .before .before .before .before in
+    room-first factWord (spaced (numbers s) ++ (10 ∷ [])) (s .args .at) (s .args .out .now) (roomy s)
 
 cast-end : tie.Need-cast-end
 cast-end c = let h = predicate (c .before .before .before .before .before .before .before .before .before) in omega arith
@@ -59,20 +61,15 @@ write-record-requires : tie.Need-write-record-requires
 write-record-requires c κs =
     let w = c .before .before .before .before .before .before in
     let s = w .before .before .before .before .before .before in
-    let h = length-line s in
-    let e = w .write-word .ensures .next in
-    let k = w .write-word .kept .1 .0 in
-    let p = s .pre .1 in
-    subst (λ (ns : List ℕ). Room (spaced ns ++ (10 ∷ [])) (w .write-word .result) (w .write-word .last .1 .0)) (part s) (omega arith)
+    subst (λ (ns : List ℕ). Room (spaced ns ++ (10 ∷ [])) (w .write-word .result) (w .write-word .last .1 .0)) (part s)
+    (room-behind (spaced (numbers s) ++ (10 ∷ [])) (w .write-word .ensures) (roomy s) (w .write-word .kept .1 .0))
 
 returns : tie.Need-returns
 returns c =
     let w = c .before .before .before .before .before .before .before .before .before in
     let s = w .before .before .before .before .before .before in
-    let h = length-line s in
     let p = s .pre .1 in
-    rw (line-parts factWord (factNumbers (s .args .arities .now) (s .args .facts .now) (s .args .i)), part s)
-    (writes-append (w .write-word .ensures) (c .before .before .write-record .ensures) (omega arith))
+    rw (line-parts factWord (numbers s), part s) (writes-append (w .write-word .ensures) (c .before .before .write-record .ensures) (omega arith))
 
 pub write-fact-line-spec : {M : Type 1} → statement M
 write-fact-line-spec =

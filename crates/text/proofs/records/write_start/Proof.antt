@@ -1,68 +1,51 @@
 -- `text::records::write_start` meets its contract: a word and two numbers. Assumes nothing.
-use mathlib.Core.Path.{_≡_, ap, _∙_}
-use mathlib.Core.List.{[], _∷_, _++_}
-use Prim.Native.Nat.{ℕ, suc, _+_}
+use mathlib.Core.List.{List, _∷_, _++_}
+use Prim.Native.Nat.{ℕ}
 use native.Mathlib.Omega.{arith}
-use lib.ListN.{length, length-append}
-use Rattle.model.specs.Text.{decimal}
-use Rattle.text.proofs.Writing.{writes-append}
-use Rattle.text.proofs.Lines.{spaced-two, length-two}
 use borrow.Author.Needs.{needs}
+use Rattle.model.specs.Text.{decimal}
+use Rattle.text.specs.Writing.{Room}
+use Rattle.text.proofs.Writing.{room-first, room-behind, writes-append}
+use Rattle.text.proofs.Lines.{spaced-two}
 use Rattle.text.proofs.records.write_start.Statement.{statement}
 use Rattle.text.proofs.records.write_start.Tie as tie
-use Rattle.laws_tables.specs.Lines.{spaced}
 
-length-start : (s : tie.Start)
-    → length (s .args .word .now ++ spaced (s .args .a ∷ s .args .b ∷ []))
-    ≡ length (s .args .word .now) + (suc (length (decimal (s .args .a))) + suc (length (decimal (s .args .b))))
-length-start s =
-    length-append (s .args .word .now) (spaced (s .args .a ∷ s .args .b ∷ []))
-    ∙ ap (λ (n : ℕ). length (s .args .word .now) + n) (length-two (s .args .a) (s .args .b))
+abbrev first : tie.Start → List ℕ
+first s = 32 ∷ decimal (s .args .a)
+
+abbrev second : tie.Start → List ℕ
+second s = 32 ∷ decimal (s .args .b)
+
+roomy : (s : tie.Start) → Room (s .args .word .now ++ (first s ++ second s)) 0 (s .args .out .now)
+roomy s = rw (spaced-two (s .args .a) (s .args .b)) at (s .pre)
+
+behind-word : (w : tie.After-write-word) → let s = w .before .before .before .before in Room (first s ++ second s) (w .write-word .result) (w .write-word .last .1 .0)
+behind-word w =
+    let s = w .before .before .before .before in
+    room-behind (first s ++ second s) (w .write-word .ensures) (roomy s) (w .write-word .kept .1 .0)
 
 write-word-requires : tie.Need-write-word-requires
-write-word-requires c κs = let h = length-start (c .before .before .before) in omega arith
+write-word-requires c κs = let s = c .before .before .before in room-first (s .args .word .now) (first s ++ second s) 0 (s .args .out .now) (roomy s)
 
 write-number-requires : tie.Need-write-number-requires
 write-number-requires c κs =
     let w = c .before .before .before in
     let s = w .before .before .before .before in
-    let h = length-start s in
-    let e = w .write-word .ensures .next in
-    let k = w .write-word .kept .1 .0 in
-    let p = s .pre in
-    omega arith
+    room-first (first s) (second s) (w .write-word .result) (w .write-word .last .1 .0) (behind-word w)
 
 write-number-requires-2 : tie.Need-write-number-requires-2
 write-number-requires-2 c κs =
-    let n = c .before .before .before in
-    let w = n .before .before .before .before in
-    let s = w .before .before .before .before in
-    let h = length-start s in
-    let e = w .write-word .ensures .next in
-    let k = w .write-word .kept .1 .0 in
-    let f = n .write-number .ensures .next in
-    let l = n .write-number .kept .1 .0 in
-    let p = s .pre in
-    omega arith
+    let n = c .before .before .before .write-number in
+    room-behind (second (c .before .before .before .before .before .before .before .before .before .before .before)) (n .ensures) (behind-word (c .before .before .before .before .before .before .before)) (n .kept .1 .0)
 
 returns : tie.Need-returns
 returns c =
     let n = c .before .before .before .before .before .before in
     let w = n .before .before .before .before in
-    let s = w .before .before .before .before in
-    let h = length-start s in
-    let e = w .write-word .ensures .next in
-    let k = w .write-word .kept .1 .0 in
-    let p = s .pre in
-    rw (spaced-two (s .args .a) (s .args .b))
+    let a = w .before .before .before .before .args in
+    let r = behind-word w in
+    rw (spaced-two (a .a) (a .b))
     (writes-append (w .write-word .ensures) (writes-append (n .write-number .ensures) (c .before .before .write-number2 .ensures) (omega arith)) (omega arith))
 
 pub write-start-spec : {M : Type 1} → statement M
-write-start-spec =
-    tie.close
-    (tie.spec
-    write-word-requires
-    write-number-requires
-    write-number-requires-2
-    (λ c. search needs)
-    returns)
+write-start-spec = tie.close (tie.spec write-word-requires write-number-requires write-number-requires-2 (λ c. search needs) returns)
