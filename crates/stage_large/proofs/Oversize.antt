@@ -15,15 +15,17 @@ use Rattle.tables.specs.Rows.{rows}
 use Rattle.tables.proofs.Tables.{rows-length}
 use Rattle.laws_triggers.specs.Match.{Body, holdsRow}
 use Rattle.laws_triggers.specs.Next.{triggersFrom}
-use Rattle.new_triggers.specs.Unhandled.{unhandledFrom, NothingUnhandled}
+use Rattle.new_triggers.specs.Unhandled.{unhandledFrom}
 use Rattle.laws_triggers.proofs.Encode.{triggers-are}
 use Rattle.new_triggers.proofs.Unhandled.{unhandled-kept}
 use Rattle.form.specs.Places.{aritiesOf, rulesOf, ruleOf, atomRows, atomArities}
 use Rattle.form_variables.specs.Sets.{setOf}
 use Rattle.form.proofs.Places.{rule-well-formed}
 use Rattle.saturation.proofs.Bodies.{bodyOf, encodes}
+use Rattle.stage_large.specs.Idle.{idle}
 use Rattle.stage_large.specs.Large.{large, HandledSmall}
 use Rattle.stage_large.specs.Stage.{Tabled, tables, stageOf}
+use Rattle.stage_large.proofs.NothingNew.{idle-unhandled}
 use Rattle.stage_large.proofs.Sizes.{arity-few, largeOver, largeRule, large-is, any-large-is, is-body, no-large, not-blockable}
 use Rattle.stage_large.proofs.Handled.{handled-is}
 
@@ -65,15 +67,15 @@ module _ (form terms : List ℕ) (n : ℕ) (facts : List ℕ) (m old : ℕ) (h :
       (triggersFrom (bodyOf (r .body)) facts m n (replicate 8 0)) (λ xs k e. handled-small b xs k (not-false (holdsRow (bodyOf (r .body)) facts old xs) e))
       ∙ any-large-is form terms n facts m h i l
 
-  -- a rule whose triggers were all handled has no large one
-  pub idle-not-large : NothingUnhandled (atomRows (r .body)) (length (r .body)) facts m old → largeRule (tables terms n facts m) r ≡ false
+  -- a rule that nothing is new for has no large trigger
+  pub idle-not-large : idle r facts m old ≡ true → largeRule (tables terms n facts m) r ≡ false
   unfolding any
   idle-not-large nothing = go (case (blockable r))
     where
       go : (blockable r ≡ true) ⊎ (blockable r ≡ false) → largeRule (tables terms n facts m) r ≡ false
       go (inl b) =
           no-large (tables terms n facts m) r
-          (sym (unhandled-large b) ∙ ap (any (large terms (setOf (universal r)))) (nothing (atomArities (r .body)) n (replicate 8 0)))
+          (sym (unhandled-large b) ∙ ap (any (large terms (setOf (universal r)))) (idle-unhandled form (h .held) i l facts m old nothing n (replicate 8 0)))
       go (inr b) = not-blockable (tables terms n facts m) r b
 
   -- a body as it comes out of the form, number by number

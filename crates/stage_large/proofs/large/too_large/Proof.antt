@@ -48,7 +48,7 @@ is-idle-requires : tie.Need-is-idle-requires Inv-loop μ-loop
 is-idle-requires c κs =
     let l = c .before in
     let s = l .before .before .before .before .before .before .before in
-    (s .pre .0 .tabled .held, omega arith, s .pre .0 .indexed)
+    (s .pre .0 .tabled .held, omega arith, s .pre .0 .indexed, s .pre .0 .tabled .room)
 
 loop-again : tie.Need-loop-again Inv-loop μ-loop
 unfolding ruleOf
@@ -62,7 +62,7 @@ loop-again c =
       l .loop .inv .1,
       l .loop .inv .2
           ∙ any-passed (largeRule t) (rulesOf (a .form .now)) (l .loop .i) (record { body = []; head = [] }) h
-          (idle-not-large (a .form .now) (a .terms .now) (a .counts .terms) (a .facts .now) (a .counts .facts) (a .counts .old) (s .pre .0 .tabled) (s .pre .1) (l .loop .i) h (c .before .is-idle .ensures (c .if1 .taken))),
+          (idle-not-large (a .form .now) (a .terms .now) (a .counts .terms) (a .facts .now) (a .counts .facts) (a .counts .old) (s .pre .0 .tabled) (s .pre .1) (l .loop .i) h (sym (c .before .is-idle .ensures) ∙ c .if1 .taken)),
       l .loop .inv .3,
       l .loop .inv .4,
     )
