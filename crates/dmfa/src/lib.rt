@@ -1,7 +1,7 @@
 // The check: stages, verdict and the caller's tables. The contracts cite the definitions over rows of `rows`.
-pub mod caller_tables;
-pub mod critical;
-pub mod judging;
+mod caller_tables;
+mod critical;
+mod judging;
 pub mod verdict;
 
 use crate::caller_tables::fill;

@@ -10,7 +10,7 @@ ghost use Prim.Native.Nat.{_<_};
 ghost use lib.ListN.{length, getD};
 ghost use Rattle.form.specs.Places.{Held, GroupAt, groupOf, aritiesOf, rulesOf, ruleOf, disjunctOf};
 
-pub fn wide(x: u16) -> usize
+pub(crate) fn wide(x: u16) -> usize
     ensures { λ r. ⌜ r ≡ x ⌝ }
 {
     x as usize
@@ -31,7 +31,7 @@ pub fn rule_count(form: &[u16]) -> usize
 }
 
 // The arity of predicate `p`.
-pub fn arity(form: &[u16], p: usize) -> usize
+pub(crate) fn arity(form: &[u16], p: usize) -> usize
     requires { ⌜ Held (now form) × (p < length (aritiesOf (now form))) ⌝ }
     ensures { λ r. ⌜ r ≡ getD (aritiesOf (now (form .entry))) p 0 ⌝ }
 {

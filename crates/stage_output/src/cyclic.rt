@@ -94,7 +94,7 @@ fn with_variable(
 }
 
 // The first cyclic row: the one before, or the first of an atom's variables.
-pub fn with_atom(
+pub(crate) fn with_atom(
     atom: [u16; 5],
     arity: usize,
     functions: [u16; 8],

@@ -20,7 +20,7 @@ pub fn note(line: &[u8], text: &[u8]) {
 }
 
 // The line of a case with another answer than the one that came.
-pub fn answer(line: &[u8], refusal: usize, place: usize) {
+pub(crate) fn answer(line: &[u8], refusal: usize, place: usize) {
     word(line);
     word(b": answered");
     figure(refusal);
