@@ -9,7 +9,7 @@ use Rattle.laws_triggers.specs.Match.{Body, Searchable}
 use Rattle.laws_triggers.specs.Next.{after}
 use Rattle.fact_index.proofs.Entering.{indexed-zeros}
 use Rattle.cursor.specs.Plan.{bodyOf}
-use Rattle.cursor.proofs.Plans.{all-planned-body}
+use Rattle.cursor.proofs.Plans.{planned-body}
 use Rattle.new_triggers.specs.Walk.{Walks, aheadIn}
 use Rattle.test_triggers.proofs.Cases.{case-searchable}
 use Rattle.test_triggers.proofs.print_triggers.Statement.{statement}
@@ -31,7 +31,7 @@ searchable : (p : tie.After-plan-of-all Inv-loop μ-loop)
     (p .before .before .before .before .before .args .count) (p .before .before .before .before .before .args .terms)
 searchable p =
     let s = p .before .before .before .before .before in
-    subst (λ (b : Body). Searchable b (s .args .facts .now) (s .args .count) (s .args .terms)) (sym (all-planned-body (p .plan-of-all .ensures))) (case-searchable (s .pre))
+    subst (λ (b : Body). Searchable b (s .args .facts .now) (s .args .count) (s .args .terms)) (sym (planned-body (p .plan-of-all .ensures))) (case-searchable (s .pre))
 
 begin-requires : tie.Need-begin-requires Inv-loop μ-loop
 begin-requires c κs =

@@ -8,7 +8,7 @@ use lib.ListN.{length, replicate}
 use Rattle.model.specs.Lists.{any}
 use Rattle.laws_triggers.specs.Match.{Body, Searchable}
 use Rattle.cursor.specs.Plan.{bodyOf}
-use Rattle.cursor.proofs.Plans.{all-planned-body}
+use Rattle.cursor.proofs.Plans.{planned-body, every-matters}
 use Rattle.new_triggers.specs.Unhandled.{unhandledFrom, Apart}
 use Rattle.new_triggers.specs.Walk.{aheadIn}
 use Rattle.stage_large.specs.Large.{large, Measured}
@@ -33,14 +33,14 @@ same-triggers : (c : tie.After-plan-of-all Inv-loop μ-loop)
     (unhandledFrom (record { atoms = c .before .before .before .before .before .args .body; arities = c .before .before .before .before .before .args .arities; count = c .before .before .before .before .before .args .atoms }) (c .before .before .before .before .before .args .facts .now) (c .before .before .before .before .before .args .counts .facts) (c .before .before .before .before .before .args .counts .old) (c .before .before .before .before .before .args .counts .terms) (replicate 8 0))
 same-triggers c =
     let a = c .before .before .before .before .before .args in
-    ap (λ (b : Body). any (large (a .terms .now) (a .set)) (unhandledFrom b (a .facts .now) (a .counts .facts) (a .counts .old) (a .counts .terms) (replicate 8 0))) (all-planned-body (c .plan-of-all .ensures))
+    ap (λ (b : Body). any (large (a .terms .now) (a .set)) (unhandledFrom b (a .facts .now) (a .counts .facts) (a .counts .old) (a .counts .terms) (replicate 8 0))) (planned-body (c .plan-of-all .ensures))
 
 begin-requires : tie.Need-begin-requires Inv-loop μ-loop
 begin-requires c κs =
     let s = c .before .before .before .before .before in
     let a = s .args in
     let p = c .plan-of-all .ensures in
-    let back = sym (all-planned-body p) in
+    let back = sym (planned-body p) in
     record {
       searchable = subst (λ (b : Body). Searchable b (a .facts .now) (a .counts .facts) (a .counts .terms)) back (s .pre .searchable);
       planned = p .planned;
@@ -60,7 +60,7 @@ next-requires c κs =
     let a = s .args in
     let p = c .before .before .plan-of-all .ensures in
     record {
-      searchable = subst (λ (b : Body). Searchable b (a .facts .now) (a .counts .facts) (a .counts .terms)) (sym (all-planned-body p)) (s .pre .searchable);
+      searchable = subst (λ (b : Body). Searchable b (a .facts .now) (a .counts .facts) (a .counts .terms)) (sym (planned-body p)) (s .pre .searchable);
       planned = p .planned;
       indexed = s .pre .indexed;
       given = l .loop .inv .0 .given;
@@ -74,7 +74,7 @@ returns c =
     let s = c .before .before .before .before .before .before .before .before .before .before in
     let p = c .before .before .before .before .before .plan-of-all .ensures in
     let n = c .before .before .next in
-    (sym (seeking-none (l .loop .inv .0) (p .every) (n .ensures) (not-true (n .result .found) (c .if1 .taken))) ∙ same-triggers (c .before .before .before .before .before), l .loop .inv .1)
+    (sym (seeking-none (l .loop .inv .0) (every-matters p) (n .ensures) (not-true (n .result .found) (c .if1 .taken))) ∙ same-triggers (c .before .before .before .before .before), l .loop .inv .1)
 
 places-requires : tie.Need-places-requires Inv-loop μ-loop
 places-requires c κs =
@@ -82,7 +82,7 @@ places-requires c κs =
     let s = c .before .before .before .before .before .before .before .before .before .before .before .before in
     let p = c .before .before .before .before .before .before .before .plan-of-all .ensures in
     let n = c .before .before .before .before .next in
-    (s .pre .ordered, seeking-within (l .loop .inv .0) (p .every) (n .ensures) (not-false (n .result .found) (c .before .before .if1 .left)), l .loop .inv .1)
+    (s .pre .ordered, seeking-within (l .loop .inv .0) (every-matters p) (n .ensures) (not-false (n .result .found) (c .before .before .if1 .left)), l .loop .inv .1)
 
 returns-2 : tie.Need-returns-2 Inv-loop μ-loop
 returns-2 c =
@@ -92,7 +92,7 @@ returns-2 c =
     let n = c .before .before .before .before .before .before .before .before .next in
     let f = not-false (n .result .found) (c .before .before .before .before .before .before .if1 .left) in
     let q = c .before .before .before .places in
-    (sym (seeking-passes (l .loop .inv .0) (p .every) (n .ensures) f (large-yes (a .terms .now) (a .set) (n .result .trigger) (q .result) (q .ensures .0) (c .if2 .taken))) ∙ same-triggers (c .before .before .before .before .before .before .before .before .before .before .before), q .ensures .1)
+    (sym (seeking-passes (l .loop .inv .0) (every-matters p) (n .ensures) f (large-yes (a .terms .now) (a .set) (n .result .trigger) (q .result) (q .ensures .0) (c .if2 .taken))) ∙ same-triggers (c .before .before .before .before .before .before .before .before .before .before .before), q .ensures .1)
 
 loop-less : tie.Need-loop-less Inv-loop μ-loop
 loop-less c =
@@ -107,7 +107,7 @@ loop-again c =
     let n = c .before .before .before .before .before .before .before .before .before .next in
     let f = not-false (n .result .found) (c .before .before .before .before .before .before .before .if1 .left) in
     let q = c .before .before .before .before .places in (
-      seeking-fails (l .loop .inv .0) (p .every) (n .ensures) f (large-no (a .terms .now) (a .set) (n .result .trigger) (q .result) (q .ensures .0) (c .before .if2 .left)),
+      seeking-fails (l .loop .inv .0) (every-matters p) (n .ensures) f (large-no (a .terms .now) (a .set) (n .result .trigger) (q .result) (q .ensures .0) (c .before .if2 .left)),
       q .ensures .1,
       q .kept .1 .1 .1 .1 .0 ∙ l .loop .inv .2,
     )
