@@ -38,7 +38,7 @@ begin-requires c κs =
     record {
       searchable = searchable (c .before);
       planned = c .before .plan-of-all .ensures .planned;
-      indexed = c .before .before .before .extend .ensures;
+      indexed = c .before .before .before .extend .ensures .0;
       apart = λ i h xs f g l. absurd (omega arith);
     }
 
@@ -47,7 +47,7 @@ loop-holds c =
     record {
       searchable = searchable (c .before .before);
       planned = c .before .before .plan-of-all .ensures .planned;
-      indexed = c .before .before .before .before .extend .ensures;
+      indexed = c .before .before .before .before .extend .ensures .0;
       given = [];
       start = replicate 8 0;
       walked = c .begin .ensures;
