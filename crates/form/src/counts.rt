@@ -8,7 +8,7 @@ use crate::layout::rule_place;
 ghost use mathlib.Core.Path.{_≡_};
 ghost use Prim.Native.Nat.{_<_};
 ghost use lib.ListN.{length, getD};
-ghost use Rattle.form.specs.Places.{Held, GroupAt, groupOf, aritiesOf, rulesOf, ruleOf, disjunctOf};
+ghost use Rattle.form.specs.Places.{bodyPlace, disjunctPlace, Held, GroupAt, groupOf, aritiesOf, rulesOf, ruleOf, disjunctOf};
 
 pub(crate) fn wide(x: u16) -> usize
     ensures { λ r. ⌜ r ≡ x ⌝ }
@@ -50,7 +50,7 @@ pub fn group_count(form: &[u16], at: usize) -> usize
 // The place of the body of rule `i`, where a group of the form stands.
 pub fn body_group(form: &[u16], i: usize) -> usize
     requires { ⌜ Held (now form) × (i < length (rulesOf (now form))) ⌝ }
-    ensures { λ r. ⌜ GroupAt (now (form .entry)) r × (groupOf (now (form .entry)) r ≡ ruleOf (now (form .entry)) i .body) ⌝ }
+    ensures { λ r. ⌜ GroupAt (now (form .entry)) r × (groupOf (now (form .entry)) r ≡ ruleOf (now (form .entry)) i .body) × (r ≡ bodyPlace i) ⌝ }
 {
     body_place(i)
 }
@@ -58,7 +58,7 @@ pub fn body_group(form: &[u16], i: usize) -> usize
 // The place of disjunct `d` of rule `i`, where a group of the form stands.
 pub fn disjunct_group(form: &[u16], i: usize, d: usize) -> usize
     requires { ⌜ Held (now form) × (i < length (rulesOf (now form))) × (d < length (ruleOf (now form) i .head)) ⌝ }
-    ensures { λ r. ⌜ GroupAt (now (form .entry)) r × (groupOf (now (form .entry)) r ≡ disjunctOf (now (form .entry)) i d) ⌝ }
+    ensures { λ r. ⌜ GroupAt (now (form .entry)) r × (groupOf (now (form .entry)) r ≡ disjunctOf (now (form .entry)) i d) × (r ≡ disjunctPlace i d) ⌝ }
 {
     disjunct_place(i, d)
 }
