@@ -3,7 +3,7 @@
 use mathlib.Core.List.{List}
 use Prim.Native.Nat.{ℕ, _+_, _-_, _*_, _%_, _≤_, _<_}
 use lib.ListN.{length, getD}
-use Rattle.tables.specs.Hashed.{Hashed}
+use Rattle.tables.specs.Hashed.{Hashed, appended}
 
 -- the numbers of a table for each term that it can have
 abbrev pub termCells : ℕ
@@ -31,3 +31,7 @@ pub record KeptTerms (terms : List ℕ) (n : ℕ) : Type 0 where
   pub fits : n * termCells ≤ length terms
   pub few : n < 65536
   pub hashed : Hashed 10 (linkAt (length terms)) (bucketOf (length terms)) (length terms - termBuckets) terms n
+
+-- the table with a term behind the first n, in its bucket
+abbrev pub moreTerms : List ℕ → ℕ → List ℕ → List ℕ
+moreTerms terms n r = appended 10 (linkAt (length terms) n) (bucketOf (length terms) r) terms r n

@@ -13,9 +13,9 @@ use Rattle.laws.proofs.Bools.{case, is-false, not-both}
 use Rattle.tables.specs.Rows.{begins, seekRow, findRow, rows}
 use Rattle.tables.specs.Chain.{latest}
 use Rattle.tables.specs.Hashed.{bucketAt, Hashed}
-use Rattle.tables.specs.TermHash.{hashOf, bucketOf, linkAt, KeptTerms}
+use Rattle.tables.specs.TermHash.{hashOf, bucketOf, linkAt, KeptTerms, moreTerms}
 use Rattle.tables.proofs.Chain.{Walked, walked-all, walked-weaker}
-use Rattle.tables.proofs.Hashed.{walk-begins, walk-goes-on, link-most, bucket-apart, Placed, appended, appended-length, appended-rows, appended-hashed}
+use Rattle.tables.proofs.Hashed.{walk-begins, walk-goes-on, link-most, bucket-apart, Placed, appended-length, appended-rows, appended-hashed}
 
 -- a table of zeros has no terms
 pub kept-terms-none : (size : ℕ) → 6144 ≤ size → KeptTerms (replicate size 0) 0
@@ -145,14 +145,10 @@ module _ {terms : List ℕ} {n : ℕ} (k : KeptTerms terms n) (room : suc n * 12
         apart = λ i h e. omega arith;
       }
 
-  -- the table then
-  abbrev pub moreTerms : List ℕ
-  moreTerms = appended 10 (linkAt (length terms) n) (bucketOf (length terms) r) terms r n
-
-  pub more-terms-rows : rows 10 (suc n) moreTerms ≡ rows 10 n terms ++ (r ∷ [])
+  more-terms-rows : rows 10 (suc n) (moreTerms terms n r) ≡ rows 10 n terms ++ (r ∷ [])
   more-terms-rows = appended-rows (k .hashed) term-placed
 
-  pub more-terms-kept : suc n < 65536 → KeptTerms moreTerms (suc n)
+  more-terms-kept : suc n < 65536 → KeptTerms (moreTerms terms n r) (suc n)
   more-terms-kept few =
       let l = appended-length (k .hashed) term-placed in
       let w = k .wide in
@@ -160,5 +156,9 @@ module _ {terms : List ℕ} {n : ℕ} (k : KeptTerms terms n) (room : suc n * 12
         wide = omega arith;
         fits = omega arith;
         few = few;
-        hashed = subst (λ (size : ℕ). Hashed 10 (linkAt size) (bucketOf size) (size - 512) moreTerms (suc n)) (sym l) (appended-hashed (k .hashed) term-placed);
+        hashed = subst (λ (size : ℕ). Hashed 10 (linkAt size) (bucketOf size) (size - 512) (moreTerms terms n r) (suc n)) (sym l) (appended-hashed (k .hashed) term-placed);
       }
+
+  -- what it holds
+  pub term-appended : suc n < 65536 → {next : List ℕ} → next ≡ moreTerms terms n r → (rows 10 (suc n) next ≡ rows 10 n terms ++ (r ∷ [])) × KeptTerms next (suc n)
+  term-appended few e = (ap (rows 10 (suc n)) e ∙ more-terms-rows, subst (λ (t : List ℕ). KeptTerms t (suc n)) (sym e) (more-terms-kept few))

@@ -8,6 +8,7 @@ use lib.ListN.{length}
 use Rattle.tables.specs.Rows.{rows}
 use Rattle.tables.specs.Terms.{copiedArity}
 use Rattle.tables.specs.TermHash.{KeptTerms}
+use Rattle.terms.proofs.Kept.{term-appended}
 use Rattle.copies.proofs.Copies.{Copied, copiedArity-le, copied-none, copied-more, copied-room, copied-number, copied-length, copied-all, copied-last}
 use Rattle.facts.proofs.Rows.{room-same}
 use borrow.Fn.Kinds.{In}
@@ -178,7 +179,8 @@ copy-returns t c =
     let e = l .loop .inv .0 in
     let w = l .loop .inv .3 .within in
     let k : l .loop .j ≡ copiedArity (s .args .terms .now) (s .args .i) = omega arith in
-    let d = c .before .before .append-term .ensures in
+    let (kept, fits, few, ten) = copy-append-term-requires t (c .before .before .before) (c .before .before .append-term .lifetimes) in
+    let d = term-appended kept fits (l .loop .row) ten few (c .before .before .append-term .ensures) in
     rw (add-one (l .loop .m)) (record { rows = d .0 ∙ copied-all (s .pre .1 .0) (s .args .i) (s .pre .1 .1) (l .loop .inv .3) k; kept = d .1 })
 
 pub +copy-spec : {M : Type 1} → statement M
