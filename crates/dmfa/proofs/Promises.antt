@@ -24,7 +24,7 @@ use Rattle.laws_published.proofs.Dmfa.{accepted-is-dmfa, accepted-is-acyclic, c
 use Rattle.laws_tables.specs.Lent.{Fronts}
 use Rattle.laws_tables.proofs.Courses.{Course, short, faulty, judged, course, checked-short, checked-bad, checked-good, checked-verdict, left-refused, refused-short, refused-faulty, refused-numbered, checked-parsed, refused-untouched, refused-zeroed}
 use Rattle.laws_tables.proofs.Spelled.{Spells}
-use Rattle.laws_tables.proofs.Checked.{checked-accepted-spelled, checked-cyclic-spelled, checked-cyclic-shown, checked-kept}
+use Rattle.laws_tables.proofs.Checked.{checked-accepted-spelled, checked-cyclic-spelled, checked-cyclic-shown, checked-kept, checked-same}
 use Rattle.laws_demand.proofs.OfCheck.{demand-3-of-check}
 use Rattle.dmfa.specs.Verdict.{meant}
 use Rattle.dmfa.specs.declared.verdict.Verdict.{Verdict}
@@ -219,3 +219,15 @@ module _ (bytes terms₀ facts₀ : List ℕ) (r : Verdict) (ts fs : List ℕ) (
           e
           ∙ ap (λ (v : stages.Verdict). left b v terms₀ facts₀) (says-verdict b (read-well-formed bytes b i k) (meant r) (d .says))
           ∙ left-gave b d (meant r) refl (d .says)
+
+-- two runs on one rule set give the same answer and leave the same front parts, whatever the tables held (document 02, C-11)
+pub runs-agree : (bytes terms₀ facts₀ : List ℕ) (r : Verdict) (ts fs : List ℕ) → Checks bytes terms₀ facts₀ r ts fs
+    → (terms₁ facts₁ : List ℕ) (r′ : Verdict) (us gs : List ℕ) → Checks bytes terms₁ facts₁ r′ us gs
+    → Fronts terms₀ facts₀ → Fronts terms₁ facts₁ → (b : RuleSet) (i : ℕ) → read bytes ≡ good b i
+    → (meant r ≡ meant r′) × (take termsFront ts ≡ take termsFront us) × (take factsFront fs ≡ take factsFront gs)
+runs-agree bytes terms₀ facts₀ r ts fs g terms₁ facts₁ r′ us gs g′ h k b i e =
+    let s = checked-same bytes terms₀ facts₀ terms₁ facts₁ b i e h k in (
+      sym (verdict-is bytes terms₀ facts₀ r ts fs g) ∙ s .verdict ∙ verdict-is bytes terms₁ facts₁ r′ us gs g′,
+      ap (take termsFront) (sym (terms-are bytes terms₀ facts₀ r ts fs g)) ∙ s .terms ∙ ap (take termsFront) (terms-are bytes terms₁ facts₁ r′ us gs g′),
+      ap (take factsFront) (sym (facts-are bytes terms₀ facts₀ r ts fs g)) ∙ s .facts ∙ ap (take factsFront) (facts-are bytes terms₁ facts₁ r′ us gs g′),
+    )

@@ -3,6 +3,7 @@ pub mod Lists
 pub mod Extending
 pub mod Indexes
 pub mod Rising
+pub mod Rises
 pub mod Prefixes
 pub mod Terms
 pub mod Facts

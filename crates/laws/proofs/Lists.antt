@@ -2,7 +2,7 @@
 -- Assumes nothing.
 use mathlib.Core.Path.{_≡_, refl, sym, ap, _∙_, subst, ap₂}
 use mathlib.Core.Bool.{Bool, true, false, _&&_, _||_, or-assoc}
-use mathlib.Core.List.{List, [], _∷_, _++_, map, append-assoc, List·Memᴰ, List·Memᴰ·head, List·Memᴰ·tail, List·Memᴰ·cases-cons, List·Memᴰ·append-cases, List·Memᴰ·not-nil, Memᴰ·append-left, Memᴰ·append-right, Memᴰ·cast, List·Memᴰ·eq-of-singleton}
+use mathlib.Core.List.{List, [], _∷_, _++_, map, append-assoc, List·Memᴰ, List·Memᴰ·head, List·Memᴰ·tail, List·Memᴰ·cases-cons, List·Memᴰ·append-cases, List·Memᴰ·not-nil, Memᴰ·append-left, Memᴰ·append-right, Memᴰ·cast, List·Memᴰ·eq-of-singleton, map-append}
 use mathlib.Core.Logic.{_⊎_, inl, inr, ⊎-elim}
 use Prim.Native.Nat.{ℕ, zero, suc, _+_, _≤_, _<_}
 use native.Mathlib.Omega.{arith}
@@ -193,6 +193,12 @@ module _ {ℓ} {A : Type ℓ} where
   pub mem-length : {x : A} {xs : List A} → List·Memᴰ x xs → 1 ≤ length xs
   mem-length (List·Memᴰ·head e) = omega arith
   mem-length (List·Memᴰ·tail m) = omega arith
+
+pub map-collect {ℓ ℓ′ ℓ″} : {A : Type ℓ} {B : Type ℓ′} {C : Type ℓ″} (f : B → C) (F : A → List B) (G : A → List C) (xs : List A) → ((x : A) → map f (F x) ≡ G x)
+    → map f (collect F xs) ≡ collect G xs
+unfolding collect
+map-collect f F G [] h = refl
+map-collect {C = C} f F G (x ∷ xs) h = map-append f (F x) (collect F xs) ∙ ap₂ (λ (y z : List C). y ++ z) (h x) (map-collect f F G xs h)
 
 module _ {ℓ ℓ′} {A : Type ℓ} {B : Type ℓ′} where
   -- `collect` and `map` by elements

@@ -11,3 +11,8 @@ pub data Distinct {ℓ} {A : Type ℓ} : List A → Type ℓ where
 unfoldable pub rising : ℕ → ℕ → List ℕ
 rising k zero = []
 rising k (suc n) = k ∷ rising (suc k) n
+
+-- each element comes before all that stand behind it
+pub data Rises {A : Type 0} (R : A → A → Type 0) : List A → Type 0 where
+  rises-none : Rises R []
+  rises-one : {x : A} {xs : List A} → ((y : A) → List·Memᴰ y xs → R x y) → Rises R xs → Rises R (x ∷ xs)

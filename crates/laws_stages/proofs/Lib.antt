@@ -4,3 +4,6 @@ pub mod Arities
 pub mod Order
 pub mod Rounds
 pub mod Verdict
+pub mod Numbered
+pub mod Derived
+pub mod Listed

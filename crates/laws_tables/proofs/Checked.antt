@@ -11,12 +11,12 @@ use Rattle.model.specs.WellFormed.{WellFormed}
 use Rattle.model.specs.Format.{good, read}
 use Rattle.model.specs.Stages.{stage, Verdict, accepted, cyclicAt, refused, verdict, cyclicTerms}
 use Rattle.model.specs.Limits.{termsFront, factsFront}
-use Rattle.model.specs.Tables.{Checked, checked, left}
+use Rattle.model.specs.Tables.{Checked, checked, left, recorded}
 use Rattle.model.specs.Spelled.{termAt}
 use Rattle.laws_format.proofs.Bytes.{read-well-formed}
 use Rattle.laws_tables.specs.Lent.{Fronts}
-use Rattle.laws_tables.proofs.Rows.{length-fronted, drop-fronted, fronted-within}
-use Rattle.laws_tables.proofs.Courses.{Course, short, faulty, judged, course, checked-verdict, left-refused}
+use Rattle.laws_tables.proofs.Rows.{length-fronted, drop-fronted, fronts-same, fronted-within}
+use Rattle.laws_tables.proofs.Courses.{Course, short, faulty, judged, course, checked-verdict, checked-good, left-refused}
 use Rattle.laws_tables.proofs.Fronts.{terms-beyond, facts-beyond, terms-length, facts-length, terms-small, facts-small}
 use Rattle.laws_tables.proofs.Spelled.{Held, accepted-held, cyclicAt-held, Spells, accepted-spelled, cyclic-spelled, cyclic-shown}
 
@@ -160,3 +160,24 @@ checked-bounded bytes terms₀ facts₀ w l k = go (course bytes terms₀ facts�
     go (faulty n p i j h r e) = same e
     go (judged b i h r e) =
         subst (λ (c : Checked). Bounded w (c .terms) (c .facts)) (sym e) (left-bounded b (read-well-formed bytes b i r) terms₀ facts₀ w l k (verdict b) refl)
+
+-- two runs on one rule set leave the same in the front parts, whatever the tables held
+pub record SameFronts (c d : Checked) : Type 0 where
+  pub verdict : c .verdict ≡ d .verdict
+  pub terms : take termsFront (c .terms) ≡ take termsFront (d .terms)
+  pub facts : take factsFront (c .facts) ≡ take factsFront (d .facts)
+
+left-same : (b : RuleSet) (v : Verdict) (terms₀ facts₀ terms₁ facts₁ : List ℕ) → SameFronts (left b v terms₀ facts₀) (left b v terms₁ facts₁)
+unfolding left recorded
+left-same b (accepted n f t) terms₀ facts₀ terms₁ facts₁ =
+    record { verdict = refl; terms = fronts-same termsFront _ terms₀ terms₁; facts = fronts-same factsFront _ facts₀ facts₁ }
+left-same b (cyclicAt n f t) terms₀ facts₀ terms₁ facts₁ =
+    record { verdict = refl; terms = fronts-same termsFront _ terms₀ terms₁; facts = fronts-same factsFront _ facts₀ facts₁ }
+left-same b (refused n p) terms₀ facts₀ terms₁ facts₁ =
+    record { verdict = refl; terms = fronts-same termsFront [] terms₀ terms₁; facts = fronts-same factsFront [] facts₀ facts₁ }
+
+pub checked-same : (bytes terms₀ facts₀ terms₁ facts₁ : List ℕ) (b : RuleSet) (i : ℕ) → read bytes ≡ good b i → Fronts terms₀ facts₀ → Fronts terms₁ facts₁
+    → SameFronts (checked bytes terms₀ facts₀) (checked bytes terms₁ facts₁)
+checked-same bytes terms₀ facts₀ terms₁ facts₁ b i r h k =
+    subst (λ (c : Checked). SameFronts c (checked bytes terms₁ facts₁)) (sym (checked-good bytes terms₀ facts₀ b i h r))
+    (subst (SameFronts (left b (verdict b) terms₀ facts₀)) (sym (checked-good bytes terms₁ facts₁ b i k r)) (left-same b (verdict b) terms₀ facts₀ terms₁ facts₁))

@@ -1,12 +1,12 @@
 -- Tables of rows of one width: where a row stands, how long a table is, and what padding and replacing the front leave. Assumes nothing.
-use mathlib.Core.Path.{_≡_, refl, _∙_}
+use mathlib.Core.Path.{_≡_, refl, sym, _∙_}
 use mathlib.Core.Logic.{_⊎_, inl, inr, ⊎-elim}
 use mathlib.Core.List.{List, [], _∷_, _++_, append-assoc, List·Memᴰ, List·Memᴰ·head, List·Memᴰ·tail, List·Memᴰ·append-cases, Memᴰ·append-right}
 use Prim.Native.Nat.{ℕ, zero, suc, _-_, _*_, _≤_, _<_}
 use native.Mathlib.Nat.{zero-mul, suc-mul, add-comm}
 use native.Mathlib.Omega.{arith}
-use lib.ListN.{length, getD, take, drop, replicate, length-append, length-drop, take-append-drop}
-use lib.Seq.{take-at, drop-at, drop-drop}
+use lib.ListN.{length, getD, take, drop, replicate, length-append, length-drop, length-replicate, take-append-drop}
+use lib.Seq.{take-at, take-append-le, drop-at, drop-drop}
 use Rattle.model.specs.Lists.{collect, padded, row}
 use Rattle.model.specs.Tables.{fronted}
 use Rattle.laws.proofs.Places.{length-padded}
@@ -46,6 +46,14 @@ length-fronted n xs table h k = rw (length-append, length-padded n xs h, length-
 pub take-fronted : (n : ℕ) (xs table : List ℕ) → length xs ≤ n → take n (fronted n xs table) ≡ padded n xs
 unfolding fronted
 take-fronted n xs table h = take-at (padded n xs) (drop n table) n (length-padded n xs h)
+
+-- whatever the table was
+pub fronts-same : (n : ℕ) (xs table other : List ℕ) → take n (fronted n xs table) ≡ take n (fronted n xs other)
+unfolding fronted padded
+fronts-same n xs table other =
+    let e = length-append xs (replicate (n - length xs) 0) in
+    let r = length-replicate {A = ℕ} (n - length xs) 0 in
+    take-append-le n (padded n xs) (drop n table) (omega arith) ∙ sym (take-append-le n (padded n xs) (drop n other) (omega arith))
 
 -- beyond its front the table is as it was
 pub drop-fronted : (n : ℕ) (xs table : List ℕ) → length xs ≤ n → drop n (fronted n xs table) ≡ drop n table

@@ -1,4 +1,4 @@
--- The [P] table, the table of misreadings and the forms of River, each computed from the definitions that the promises use. Assumes nothing.
+-- The [P] table, the table of misreadings, the order of records and the forms of River, each computed from the definitions that the promises use. Assumes nothing.
 use mathlib.Core.Path.{_≡_, refl}
 use mathlib.Core.List.{List, [], _∷_, _++_, map}
 use mathlib.Core.Bool.{Bool}
@@ -19,7 +19,7 @@ use Rattle.model.specs.Tables
 use Rattle.model.specs.Tables.{Checked, checked}
 use Rattle.model.specs.Text
 use Rattle.model.specs.Text.{printed}
-use Rattle.model.specs.Cases.{Case, terms₀, facts₀, expected, expectedTables, cases, riverBytes, riverForm, riverText, misreadings}
+use Rattle.model.specs.Cases.{Case, terms₀, facts₀, expected, expectedTables, cases, riverBytes, riverForm, riverText, misreadings, ordered}
 
 -- `checked`, with every definition that it rests on open
 run : List ℕ → Checked
@@ -36,6 +36,11 @@ p-table = (refl, refl)
 pub not-misread : map (λ (c : Case). checked (c .bytes) terms₀ facts₀) misreadings ≡ map expected misreadings
 unfolding run misreadings expected expectedTables
 not-misread = refl
+
+-- The order of records: each fact and each term in its place.
+pub in-order : map (λ (c : Case). checked (c .bytes) terms₀ facts₀) ordered ≡ map expected ordered
+unfolding run ordered expected expectedTables
+in-order = refl
 
 -- which of the numbers from place p on are counted
 pub countedFrom : List ℕ → ℕ → List ℕ → List Bool

@@ -10,6 +10,7 @@ pub mod Blocking
 pub mod Stages
 pub mod Tables
 pub mod Spelled
+pub mod Order
 pub mod Text
 pub mod Published
 pub mod Chase
