@@ -6,20 +6,20 @@ use lib.ListN.{length, getD, take, drop, set}
 use Rattle.model.specs.Lists.{padded, collect}
 use Rattle.model.specs.Format.{Parsed, good, many, byte, variable, atom, atoms}
 use Rattle.model.specs.Form.{atomRow, group}
-use Rattle.form_variables.specs.Sets.{setOf}
-use Rattle.parsing.specs.Step.{zeros, Filled, atomSet, atomsSet}
+use Rattle.parsing.specs.Step.{zeros, Filled, atomsSet}
 use Rattle.parsing.specs.declared.Step.{Step}
 use Rattle.parsing.proofs.Lists.{tail-length, headed-filled}
 use Rattle.parsing.proofs.Parsing.{continues, maps, refill}
 use Rattle.parsing.proofs.Many.{many-length}
+use Rattle.reader.specs.Parts.{grownBy, grownByAtom}
 
-pub atom-filled : (bs arities : List ℕ) (i p j : ℕ) (row left : List ℕ) (r : Step) → byte bs 0 (length arities - 1) 7 i ≡ good p j → row ≡ zeros 5
-    → Filled setOf (padded (length (take (length (set row 0 p) - 1) (drop 1 (set row 0 p))))) (many (getD arities p 0) (variable bs) j) r left
-    → Filled atomSet atomRow (atom bs arities i) r (take 1 (set row 0 p) ++ (left ++ drop (length (set row 0 p) - 1) (drop 1 (set row 0 p))))
+pub atom-filled : (bs arities : List ℕ) (i p j before : ℕ) (row left : List ℕ) (r : Step) → byte bs 0 (length arities - 1) 7 i ≡ good p j → row ≡ zeros 5
+    → Filled (grownBy before) (padded (length (take (length (set row 0 p) - 1) (drop 1 (set row 0 p))))) (many (getD arities p 0) (variable bs) j) r left
+    → Filled (grownByAtom before) atomRow (atom bs arities i) r (take 1 (set row 0 p) ++ (left ++ drop (length (set row 0 p) - 1) (drop 1 (set row 0 p))))
 unfolding atom atomRow
-atom-filled bs arities i p j row left r e z h =
+atom-filled bs arities i p j before row left r e z h =
     continues _ _ _ _ _ _ p j e
-    (maps (λ (vs : List ℕ). record { predicate = p; variables = vs }) setOf atomSet _ atomRow _ r left _ (λ vs. refl)
+    (maps (λ (vs : List ℕ). record { predicate = p; variables = vs }) (grownBy before) (grownByAtom before) _ atomRow _ r left _ (λ vs. refl)
     (λ vs s. headed-filled 4 row p z vs left (s ∙ ap (λ (m : ℕ). padded m vs) (tail-length 4 row p z)))
     h)
 

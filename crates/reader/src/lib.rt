@@ -19,10 +19,9 @@ ghost use Rattle.model.specs.Format.{many};
 ghost use Rattle.model.specs.Limits.{factWidth, ruleLimit};
 ghost use Rattle.model.specs.Form.{groupWidth, ruleWidth, rulesLength, formLength, atomRow, group, ruleRow, encoded};
 ghost use Rattle.model.specs.Format as format;
-ghost use Rattle.form_variables.specs.Sets.{setOf};
-ghost use Rattle.parsing.specs.Step.{none, parsedRules, zeros, Filled, Arities, atomSet, atomsSet};
+ghost use Rattle.parsing.specs.Step.{none, parsedRules, zeros, Filled, Arities, atomsSet};
 ghost use Rattle.parsing.specs.Heads.{fault as faulty};
-ghost use Rattle.reader.specs.Parts.{rulesRow, afterArities};
+ghost use Rattle.reader.specs.Parts.{grownBy, grownByAtom, rulesRow, afterArities};
 ghost use Rattle.reader.specs.Transfer.{Reads};
 
 // The place of a rule's disjuncts in its row, and that of the arities in a form, which are its last 64 numbers.
@@ -36,12 +35,12 @@ pub enum Transfer {
     Refusal(u8, usize),
 }
 
-// n variables into the front of a row of zeros; the value is their set.
-fn variables(bytes: &[u8], n: usize, i: usize, row: &mut [u16]) -> Step
+// n variables into the front of a row of zeros; the value is the set that was handed over, grown by them.
+fn variables(bytes: &[u8], n: usize, i: usize, kept: u8, row: &mut [u16]) -> Step
     requires { ⌜ (n ≤ length (now row)) × (now row ≡ zeros (length (now row))) ⌝ }
-    ensures { λ r. ⌜ Filled setOf (padded (length (now (row .entry)))) (many n (format.variable (now (bytes .entry))) i) r (now (row .exit)) ⌝ }
+    ensures { λ r. ⌜ Filled (grownBy kept) (padded (length (now (row .entry)))) (many n (format.variable (now (bytes .entry))) i) r (now (row .exit)) ⌝ }
 {
-    let mut set: u8 = 0;
+    let mut set = kept;
     let mut at = i;
     let mut k = 0;
     while k < n {
@@ -60,11 +59,11 @@ fn variables(bytes: &[u8], n: usize, i: usize, row: &mut [u16]) -> Step
     Step::Good(set, at)
 }
 
-// An atom into a row of zeros; the value is the set of its variables.
-fn atom(bytes: &[u8], arities: &[u16], i: usize, row: &mut [u16]) -> Step
+// An atom into a row of zeros; the value is the set that was handed over, grown by its variables.
+fn atom(bytes: &[u8], arities: &[u16], i: usize, kept: u8, row: &mut [u16]) -> Step
     requires { ⌜ Arities (now arities) ⌝ }
     requires { ⌜ now row ≡ zeros factWidth ⌝ }
-    ensures { λ r. ⌜ Filled atomSet atomRow (format.atom (now (bytes .entry)) (now (arities .entry)) i) r (now (row .exit)) ⌝ }
+    ensures { λ r. ⌜ Filled (grownByAtom kept) atomRow (format.atom (now (bytes .entry)) (now (arities .entry)) i) r (now (row .exit)) ⌝ }
 {
     let head = byte(bytes, 0, (arities.len() - 1) as u8, 7, i);
     let Step::Good(p, j) = head else {
@@ -72,10 +71,10 @@ fn atom(bytes: &[u8], arities: &[u16], i: usize, row: &mut [u16]) -> Step
     };
     row[0] = p as u16;
     let n = arities[p as usize] as usize;
-    variables(bytes, n, j, &mut row[1..])
+    variables(bytes, n, j, kept, &mut row[1..])
 }
 
-// n atoms into the front of a row of zeros; the value is the set of their variables.
+// n atoms into the front of a row of zeros; the value is the set of their variables, one running value that each atom grows (`Afresh`).
 fn many_atoms(bytes: &[u8], arities: &[u16], n: usize, i: usize, rows: &mut [u16]) -> Step
     requires { ⌜ Arities (now arities) ⌝ }
     requires { ⌜ (n ≤ 4) × (now rows ≡ zeros (4 * factWidth)) ⌝ }
@@ -86,9 +85,9 @@ fn many_atoms(bytes: &[u8], arities: &[u16], n: usize, i: usize, rows: &mut [u16
     let mut from = 0;
     let mut k = 0;
     while k < n {
-        match atom(bytes, arities, at, &mut rows[from..from + ATOM_WIDTH]) {
-            Step::Good(variables, next) => {
-                set = set | variables;
+        match atom(bytes, arities, at, set, &mut rows[from..from + ATOM_WIDTH]) {
+            Step::Good(grown, next) => {
+                set = grown;
                 at = next;
                 from += ATOM_WIDTH;
                 k += 1;

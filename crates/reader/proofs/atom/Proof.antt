@@ -51,12 +51,12 @@ variables-requires c κs =
 
 same-length : tie.Need-same-length
 same-length c =
-    headed-length (c .before .before .before .before .before .before .before .before .before .before .before .before .args .row .now) (c .before .before .before .before .before .before .head .given .0 .0) (c .before .before .variables .last .1 .1 .1 .0)
-    (c .before .before .variables .kept .1 .1 .1 .0)
+    headed-length (c .before .before .before .before .before .before .before .before .before .before .before .before .args .row .now) (c .before .before .before .before .before .before .head .given .0 .0) (c .before .before .variables .last .1 .1 .1 .1 .0)
+    (c .before .before .variables .kept .1 .1 .1 .1 .0)
 
 returns-2 : tie.Need-returns-2
 returns-2 c =
-    atom-filled _ _ _ _ _ _ _ _ (read (c .before .before .before .before .before .before)) (c .before .before .before .before .before .before .before .before .before .before .before .before .pre .1) (c .before .before .variables .ensures)
+    atom-filled _ _ _ _ _ (c .before .before .before .before .before .before .before .before .before .before .before .before .args .kept) _ _ _ (read (c .before .before .before .before .before .before)) (c .before .before .before .before .before .before .before .before .before .before .before .before .pre .1) (c .before .before .variables .ensures)
 
 pub atom-spec : {M : Type 1} → statement M
 atom-spec =

@@ -9,15 +9,15 @@ use Rattle.model.specs.Lists.{collect}
 use Rattle.model.specs.Format.{atom}
 use Rattle.model.specs.Form.{atomRow}
 use Rattle.form_variables.specs.Sets.{setOf}
-use Rattle.parsing.specs.Step.{atomSet, atomsSet}
 use Rattle.parsing.proofs.Many.{Rows, rows-begun, rows-lent, rows-length, rows-more, rows-failed, rows-same, rows-finished}
-use Rattle.parsing.proofs.Heads.{atomsSet-more}
+use Rattle.reader.specs.Parts.{grownByAtom, Afresh}
+use Rattle.reader.proofs.Kept.{kept-afresh}
 use Rattle.reader.proofs.many_atoms.Statement.{statement}
 use Rattle.reader.proofs.many_atoms.Tie as tie
 
 abbrev Inv-loop : tie.InvT-loop
 Inv-loop bytes arities n i rows₀ set₀ at₀ from₀ k₀ rows set at from k =
-    Rows (atom bytes arities) (λ as' s. atomsSet as' ≡ s) atomRow factWidth (4 * factWidth) n i rows₀ k at from set rows
+    Rows (atom bytes arities) Afresh atomRow factWidth (4 * factWidth) n i rows₀ k at from set rows
 
 abbrev μ-loop : tie.MeasureT-loop
 μ-loop bytes arities n i rows₀ set₀ at₀ from₀ k₀ rows set at from k = n - k
@@ -34,14 +34,14 @@ atom-requires c κs =
 loop-again : tie.Need-loop-again Inv-loop μ-loop
 loop-again c =
     let f = c .before .before .before .before .before .atom in
-    rows-more (c .before .before .before .before .before .before .before .before .loop .inv) (c .before .before .before .before .before .before .before .before .before .before .before .before .pre .1 .1) _ (f .kept .1 .1 .1 .0) atomSet _ _ _ _ (omega arith) (omega arith) (c .before .variables .given .1) (f .ensures)
-    (atomsSet-more _ _)
+    rows-more (c .before .before .before .before .before .before .before .before .loop .inv) (c .before .before .before .before .before .before .before .before .before .before .before .before .pre .1 .1) _ (f .kept .1 .1 .1 .1 .0) (grownByAtom (c .before .before .before .before .before .before .before .before .loop .set)) _ _ _ _ (omega arith) (omega arith) (c .before .grown .given .1) (f .ensures)
+    (kept-afresh (c .before .before .before .before .before .before .before .before .loop .set) _)
 
 same-length : tie.Need-same-length Inv-loop μ-loop
-same-length c = rows-length (c .before .before .before .before .before .before .before .before .loop .inv) (c .before .before .before .before .before .before .before .before .before .before .before .before .pre .1 .1) (c .before .before .before .before .before .atom .last .1 .1 .1 .0) (c .before .before .before .before .before .atom .kept .1 .1 .1 .0)
+same-length c = rows-length (c .before .before .before .before .before .before .before .before .loop .inv) (c .before .before .before .before .before .before .before .before .before .before .before .before .pre .1 .1) (c .before .before .before .before .before .atom .last .1 .1 .1 .1 .0) (c .before .before .before .before .before .atom .kept .1 .1 .1 .1 .0)
 
 returns : tie.Need-returns Inv-loop μ-loop
-returns c = rows-failed (c .before .before .before .before .before .before .before .before .loop .inv) (c .before .before .before .before .before .before .before .before .before .before .before .before .pre .1 .1) atomSet _ _ _ _ _ _ _ (omega arith) (c .before .refusal .given .1) (c .before .before .before .before .before .atom .ensures)
+returns c = rows-failed (c .before .before .before .before .before .before .before .before .loop .inv) (c .before .before .before .before .before .before .before .before .before .before .before .before .pre .1 .1) (grownByAtom (c .before .before .before .before .before .before .before .before .loop .set)) _ _ _ _ _ _ _ (omega arith) (c .before .refusal .given .1) (c .before .before .before .before .before .atom .ensures)
 
 same-length-2 : tie.Need-same-length-2 Inv-loop μ-loop
 same-length-2 c = rows-same (c .before .loop .inv) (c .before .before .before .before .before .pre .1 .1)

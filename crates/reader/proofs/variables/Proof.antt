@@ -5,24 +5,23 @@ use native.Mathlib.Omega.{arith}
 use borrow.Author.Needs.{needs}
 use lib.ListN.{length, length-set}
 use Rattle.model.specs.Format.{good, variable}
-use Rattle.form_variables.specs.Sets.{setOf}
 use Rattle.parsing.specs.Step.{value}
 use Rattle.parsing.proofs.Lists.{single}
-use Rattle.form_variables.proofs.Sets.{setOf-more}
 use Rattle.parsing.proofs.Parsing.{step-value, step-bad, variable-good}
 use Rattle.parsing.proofs.Many.{Progress, begun, more-single, finished-single, failed}
+use Rattle.reader.specs.Parts.{grownBy}
+use Rattle.reader.proofs.Kept.{grown-none, grown-more}
 use Rattle.reader.proofs.variables.Statement.{statement}
 use Rattle.reader.proofs.variables.Tie as tie
 
 abbrev Inv-loop : tie.InvT-loop
-Inv-loop bytes n i row₀ set₀ at₀ k₀ row set at k = (k ≤ n) × (length row ≡ length row₀) × Progress (variable bytes) (λ vs s. setOf vs ≡ s) single n i row₀ k at k set row
+Inv-loop bytes n i kept row₀ set₀ at₀ k₀ row set at k = (k ≤ n) × (length row ≡ length row₀) × Progress (variable bytes) (λ vs s. grownBy kept vs ≡ s) single n i row₀ k at k set row
 
 abbrev μ-loop : tie.MeasureT-loop
-μ-loop bytes n i row₀ set₀ at₀ k₀ row set at k = n - k
+μ-loop bytes n i kept row₀ set₀ at₀ k₀ row set at k = n - k
 
 loop-holds : tie.Need-loop-holds Inv-loop μ-loop
-unfolding setOf
-loop-holds c = (omega arith, refl, begun _ _ _ _ _ _ _ refl)
+loop-holds c = (omega arith, refl, begun _ _ _ _ _ _ _ (grown-none _))
 
 -- the variable that a turn reads
 read : (c : tie.After-v Inv-loop μ-loop)
@@ -38,7 +37,7 @@ shl-set c = omega (arith, read-small (c .before))
 loop-again : tie.Need-loop-again Inv-loop μ-loop
 loop-again c =
     let h = c .before .before .before .before .before .loop .inv in
-    (omega arith, simp length-set (h .1), more-single _ _ _ _ _ _ _ _ _ (h .2) _ _ _ (omega arith) (omega arith) (read (c .before)) (λ vs e. setOf-more vs _ _ (read-small (c .before)) e))
+    (omega arith, simp length-set (h .1), more-single _ _ _ _ _ _ _ _ _ (h .2) _ _ _ (omega arith) (omega arith) (read (c .before)) (λ vs e. grown-more (c .before .before .before .before .before .before .before .before .args .kept) vs _ _ (read-small (c .before)) e))
 
 returns : tie.Need-returns Inv-loop μ-loop
 returns c =
