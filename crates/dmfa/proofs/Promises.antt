@@ -8,7 +8,6 @@ use Rattle.model.specs.Lists.{collect}
 use Rattle.model.specs.Term.{Term, star}
 use Rattle.model.specs.Rules.{RuleSet, entries}
 use Rattle.model.specs.Format.{good, read}
-use Rattle.model.specs.Triggers.{Fact}
 use Rattle.model.specs.Stages as stages
 use Rattle.model.specs.Stages.{Stage, stage, accepted, cyclicAt, refused, verdict, cyclicTerms}
 use Rattle.model.specs.Limits.{termsFront, factsFront}
@@ -17,8 +16,9 @@ use Rattle.model.specs.Spelled.{termAt}
 use Rattle.model.specs.Demand.{Demand3}
 use Rattle.laws.specs.Lists.{Distinct}
 use Rattle.laws_format.proofs.Bytes.{read-well-formed}
-use Rattle.laws_stages.specs.Says.{CyclicAt, Cause, large, many, facts, terms, Refused, Says}
+use Rattle.laws_stages.specs.Says.{Cause, large, many, facts, terms, Says}
 use Rattle.laws_stages.proofs.Growth.{facts-distinct, terms-distinct}
+use Rattle.laws_stages.proofs.Listed.{shown-first}
 use Rattle.laws_stages.proofs.Verdict.{verdict-says, says-verdict, cyclicAt-says}
 use Rattle.laws_published.proofs.Dmfa.{accepted-is-dmfa, accepted-is-acyclic, cyclic-is-reached}
 use Rattle.laws_tables.specs.Lent.{Fronts}
@@ -28,7 +28,7 @@ use Rattle.laws_tables.proofs.Checked.{checked-accepted-spelled, checked-cyclic
 use Rattle.laws_demand.proofs.OfCheck.{demand-3-of-check}
 use Rattle.dmfa.specs.Verdict.{meant}
 use Rattle.dmfa.specs.declared.verdict.Verdict.{Verdict}
-use Rattle.dmfa.specs.Promises.{Checks, listedTerms, listed, shown, Demand1, Holds, Shown, Demand2, Promised}
+use Rattle.dmfa.specs.Promises.{Checks, listedTerms, listed, shown, Demand1, HoldsStage, Shown, Demand2, Promised}
 
 -- what `left` puts into the tables
 
@@ -95,7 +95,7 @@ module _ (bytes terms₀ facts₀ : List ℕ) (r : Verdict) (ts fs : List ℕ) (
 
     -- a stage that the tables were left with
     holds : (v : stages.Verdict) (n f t : ℕ) (us : List Term) → checked bytes terms₀ facts₀ ≡ recorded v (stage b n) us terms₀ facts₀
-        → Spells (b .arities) (stage b n) f t (checked bytes terms₀ facts₀) → Holds b (stage b n) us f t terms₀ facts₀ ts fs
+        → Spells (b .arities) (stage b n) f t (checked bytes terms₀ facts₀) → HoldsStage b (stage b n) us f t terms₀ facts₀ ts fs
     holds v n f t us l s =
         let p = l ∙ recorded-is v (stage b n) us terms₀ facts₀ in
         let a : listedTerms t ts ≡ stage b n .terms = rw (sym terms-are) (s .terms) in
@@ -109,21 +109,21 @@ module _ (bytes terms₀ facts₀ : List ℕ) (r : Verdict) (ts fs : List ℕ) (
           facts-once = subst Distinct (sym c) (facts-distinct b n);
         }
 
-    holds-accepted : (n f t : ℕ) → meant r ≡ accepted n f t → Holds b (stage b n) [] f t terms₀ facts₀ ts fs
+    holds-accepted : (n f t : ℕ) → meant r ≡ accepted n f t → HoldsStage b (stage b n) [] f t terms₀ facts₀ ts fs
     holds-accepted n f t w =
         holds (accepted n f t) n f t [] (leaves w ∙ left-accepted b n f t terms₀ facts₀)
         (checked-accepted-spelled bytes terms₀ facts₀ b i n f t e (verdict-is ∙ w))
 
     -- the term behind the stage's own is the first cyclic one
-    shown-first : (n f t : ℕ) → meant r ≡ cyclicAt (suc n) f t → take 1 (cyclicTerms (entries b) (stage b n)) ≡ shown t ts ∷ []
-    shown-first n f t w =
+    first-output : (n f t : ℕ) → meant r ≡ cyclicAt (suc n) f t → take 1 (cyclicTerms (entries b) (stage b n)) ≡ shown t ts ∷ []
+    first-output n f t w =
         ap (λ (k : ℕ). take 1 (cyclicTerms (entries b) (stage b k))) (sym (before n))
         ∙ checked-cyclic-shown bytes terms₀ facts₀ b i (suc n) f t e (verdict-is ∙ w)
         ∙ ap (λ (x : List ℕ). termAt (λ j. star) (suc t) x t ∷ []) terms-are
 
-    holds-cyclic : (n f t : ℕ) → meant r ≡ cyclicAt (suc n) f t → Holds b (stage b n) (shown t ts ∷ []) f t terms₀ facts₀ ts fs
+    holds-cyclic : (n f t : ℕ) → meant r ≡ cyclicAt (suc n) f t → HoldsStage b (stage b n) (shown t ts ∷ []) f t terms₀ facts₀ ts fs
     holds-cyclic n f t w =
-        holds (cyclicAt (suc n) f t) n f t (shown t ts ∷ []) (leaves w ∙ left-cyclic b n f t (shown t ts) (shown-first n f t w) terms₀ facts₀)
+        holds (cyclicAt (suc n) f t) n f t (shown t ts ∷ []) (leaves w ∙ left-cyclic b n f t (shown t ts) (first-output n f t w) terms₀ facts₀)
         (subst (λ (k : ℕ). Spells (b .arities) (stage b k) f t (checked bytes terms₀ facts₀)) (before n)
         (checked-cyclic-spelled bytes terms₀ facts₀ b i (suc n) f t e (verdict-is ∙ w)))
 
@@ -134,7 +134,7 @@ module _ (bytes terms₀ facts₀ : List ℕ) (r : Verdict) (ts fs : List ℕ) (
         let l = cyclicAt-says b wf v in
         let x = cyclic-is-reached b wf v in
         let k : l .last ≡ n = (let q = l .next in omega arith) in
-        let d : l .shown ∷ [] ≡ shown t ts ∷ [] = sym (ap (take 1) (ap (λ (j : ℕ). cyclicTerms (entries b) (stage b j)) (sym k) ∙ l .found)) ∙ shown-first n f t w in
+        let d : l .shown ∷ [] ≡ shown t ts ∷ [] = sym (ap (take 1) (ap (λ (j : ℕ). cyclicTerms (entries b) (stage b j)) (sym k) ∙ l .found)) ∙ first-output n f t w in
         let c : l .shown ≡ shown t ts = cc in
         subst (Shown b n) c
         (record {
@@ -143,7 +143,7 @@ module _ (bytes terms₀ facts₀ : List ℕ) (r : Verdict) (ts fs : List ℕ) (
           known = x .known;
           reached = x .within (x .fact) (x .known);
           argument = x .argument;
-          first = shown-first n f t w ∙ sym d;
+          first = sym (shown-first b n (x .first n (omega arith))) ∙ first-output n f t w ∙ sym d;
           earlier = λ j m. x .first j (omega arith);
         })
 
@@ -199,8 +199,9 @@ module _ (bytes terms₀ facts₀ : List ℕ) (r : Verdict) (ts fs : List ℕ) (
         let m = s .last in
         let w′ : meant r ≡ cyclicAt (suc m) f t = w ∙ ap (λ (j : ℕ). cyclicAt j f t) (s .next) in
         let h = d .last m f t w′ in
+        let v = d .shows m f t w′ in
         ap (λ (j : ℕ). left b (cyclicAt j f t) terms₀ facts₀) (s .next)
-        ∙ left-cyclic b m f t (shown t ts) (d .shows m f t w′ .first) terms₀ facts₀
+        ∙ left-cyclic b m f t (shown t ts) (shown-first b m (v .earlier m (omega arith)) ∙ v .first) terms₀ facts₀
         ∙ recorded-is (cyclicAt (suc m) f t) (stage b m) (shown t ts ∷ []) terms₀ facts₀
         ∙ equal w′ (h .term-records) (h .fact-records)
     left-gave (refused n q) w s =

@@ -7,12 +7,12 @@ use mathlib.Core.Logic.{_↔_}
 use mathlib.Core.List.{List, [], _∷_, _++_, List·Memᴰ}
 use Prim.Native.Nat.{ℕ, suc, _≤_}
 use lib.ListN.{length, take, drop}
-use Rattle.model.specs.Lists.{collect}
+use Rattle.model.specs.Lists.{collect, keep}
 use Rattle.model.specs.Term.{Term, star, cyclic}
-use Rattle.model.specs.Rules.{RuleSet, entries}
+use Rattle.model.specs.Rules.{RuleSet}
 use Rattle.model.specs.Format.{good, bad, read}
 use Rattle.model.specs.Triggers.{Fact}
-use Rattle.model.specs.Stages.{Stage, stage, cyclicTerms, accepted, cyclicAt, refused}
+use Rattle.model.specs.Stages.{Stage, stage, accepted, cyclicAt, refused}
 use Rattle.model.specs.Limits.{termsFront, factsFront}
 use Rattle.model.specs.Tables.{checked, fronted, termRow, factRow}
 use Rattle.model.specs.Spelled.{termAt, spelledTerms, spelledFacts}
@@ -55,7 +55,7 @@ pub record Demand1 (bytes terms₀ facts₀ : List ℕ) (r : Verdict) (terms fac
 
 -- The tables hold a stage of f facts and t terms, and the records of some terms more: records first, zeros behind them. What they spell out
 -- is the stage, each term and each fact once.
-pub record Holds (b : RuleSet) (s : Stage) (more : List Term) (f t : ℕ) (terms₀ facts₀ terms facts : List ℕ) : Type 0 where
+pub record HoldsStage (b : RuleSet) (s : Stage) (more : List Term) (f t : ℕ) (terms₀ facts₀ terms facts : List ℕ) : Type 0 where
   pub term-records : terms ≡ fronted termsFront (collect (termRow (s .terms)) (s .terms ++ more)) terms₀
   pub fact-records : facts ≡ fronted factsFront (collect (factRow (s .terms)) (s .facts)) facts₀
   pub terms-spelled : listedTerms t terms ≡ s .terms
@@ -63,15 +63,15 @@ pub record Holds (b : RuleSet) (s : Stage) (more : List Term) (f t : ℕ) (terms
   pub terms-once : Distinct (listedTerms t terms)
   pub facts-once : Distinct (listed b f t terms facts)
 
--- The shown term is cyclic, an argument of a fact of stage n + 1, which DMFA(R) has, and the first such in C-11's order; no stage up to n
--- holds a cyclic term.
+-- The shown term is cyclic, an argument of a fact of stage n + 1, which DMFA(R) has, and the first cyclic one among that stage's terms; no
+-- stage up to n holds a cyclic term.
 pub record Shown (b : RuleSet) (n : ℕ) (u : Term) : Type 0 where
   pub loops : cyclic u ≡ true
   pub fact : Fact
   pub known : List·Memᴰ fact (stage b (suc n) .facts)
   pub reached : Dmfa b fact
   pub argument : List·Memᴰ u (fact .arguments)
-  pub first : take 1 (cyclicTerms (entries b) (stage b n)) ≡ u ∷ []
+  pub first : take 1 (keep cyclic (stage b (suc n) .terms)) ≡ u ∷ []
   pub earlier : (j : ℕ) → j ≤ n → (v : Term) → List·Memᴰ v (stage b j .terms) → cyclic v ≡ false
 
 -- demand 2, of a rule set that was read
@@ -79,11 +79,11 @@ pub record Demand2 (b : RuleSet) (terms₀ facts₀ : List ℕ) (r : Verdict) (t
   -- the answer is what the stages say, in document 01's order: the stage, the counts, and why a refusal is deserved
   pub says : Says b (meant r)
   -- accepted: the tables hold that stage, its facts are exactly DMFA(R), and none of these holds a cyclic term
-  pub saturated : (n f t : ℕ) → meant r ≡ accepted n f t → Holds b (stage b n) [] f t terms₀ facts₀ terms facts
+  pub saturated : (n f t : ℕ) → meant r ≡ accepted n f t → HoldsStage b (stage b n) [] f t terms₀ facts₀ terms facts
   pub least : (n f t : ℕ) → meant r ≡ accepted n f t → (g : Fact) → List·Memᴰ g (listed b f t terms facts) ↔ Dmfa b g
   pub acyclic : (n f t : ℕ) → meant r ≡ accepted n f t → (g : Fact) → Dmfa b g → (u : Term) → List·Memᴰ u (g .arguments) → cyclic u ≡ false
   -- cyclic: the tables hold the stage before, and the shown term behind its terms
-  pub last : (n f t : ℕ) → meant r ≡ cyclicAt (suc n) f t → Holds b (stage b n) (shown t terms ∷ []) f t terms₀ facts₀ terms facts
+  pub last : (n f t : ℕ) → meant r ≡ cyclicAt (suc n) f t → HoldsStage b (stage b n) (shown t terms ∷ []) f t terms₀ facts₀ terms facts
   pub shows : (n f t : ℕ) → meant r ≡ cyclicAt (suc n) f t → Shown b n (shown t terms)
 
 -- all three, for every input

@@ -12,9 +12,9 @@ use Rattle.model.specs.Demand.{Demand3}
 use Rattle.laws.proofs.Lists.{false-any}
 use Rattle.laws.proofs.Prefixes.{prefix-mem}
 use Rattle.laws_stages.proofs.Outputs.{mem-outputs}
-use Rattle.laws_stages.proofs.Growth.{stage-zero-facts, facts-grow, outputs-in}
+use Rattle.laws_stages.proofs.Growth.{stage-zero-facts, facts-grow}
 use Rattle.laws_stages.specs.Says.{Accepted}
-use Rattle.laws_stages.proofs.Verdict.{accepted-says}
+use Rattle.laws_stages.proofs.Verdict.{accepted-says, accepted-closed}
 use Rattle.laws_published.proofs.Dmfa.{stage-acyclic, mem-triggersIn}
 use Rattle.laws_chase.proofs.Steps.{steps-bounded}
 use Rattle.laws_demand.proofs.Covered.{Saturated, chase-covered}
@@ -24,7 +24,7 @@ accepted-saturated {b} {n} a =
     record {
       critical = λ g m. prefix-mem (facts-grow b 0 n (omega arith)) (rw (stage-zero-facts b) m);
       outputs = λ e m i s l free g k.
-          outputs-in b n (a .still) g
+          accepted-closed b a g
           (mem-outputs (entries b) (stage b n) (record { entry = e; terms = m; known = i; trigger = mem-triggersIn b n e m s l; free = free; fact = k }));
       acyclic = λ g m. false-any cyclic (g .arguments) (λ u k. stage-acyclic b n (λ j h. a .reached .passed j h .acyclic) g m u k);
     }

@@ -3,19 +3,21 @@
 use mathlib.Core.Path.{_≡_, refl, sym, ap, _∙_, subst}
 use mathlib.Core.Bool.{true, false}
 use mathlib.Core.Logic.{_↔_, _⊎_, inl, inr, ⊎-elim}
-use mathlib.Core.List.{List, [], List·Memᴰ, List·Memᴰ·head, List·Memᴰ·eq-of-singleton}
+use mathlib.Core.List.{List, [], List·Memᴰ, List·Memᴰ·head, List·Memᴰ·eq-of-singleton, Memᴰ·cast}
 use Prim.Native.Nat.{ℕ, zero, suc, _≤_, _<_}
+use native.Mathlib.Nat.{zero-add}
 use native.Mathlib.Omega.{arith}
 use native.Mathlib.Decide.{decLt}
+use lib.ListN.{getD, replicate}
 use Rattle.model.specs.Term.{Term, star, cyclic}
 use Rattle.model.specs.Rules.{RuleSet, Entry, entries, universal, blockable}
 use Rattle.model.specs.WellFormed.{WellFormed}
 use Rattle.model.specs.Triggers.{Fact, assign, instantiate}
 use Rattle.model.specs.Blocking.{blocked}
-use Rattle.model.specs.Stages.{Stage, triggersIn, stage, cyclicTerms, tooMany, accepted, cyclicAt, refused, verdict}
-use Rattle.model.specs.Published.{Substitution, Blocked, Dmfa, start, step}
+use Rattle.model.specs.Stages.{Stage, critical, triggersIn, stage, cyclicTerms, tooMany, accepted, cyclicAt, refused, verdict}
+use Rattle.model.specs.Published.{Substitution, Blocked, Critical, Dmfa, start, step}
 use Rattle.laws.proofs.Bools.{case, not-both, is-false}
-use Rattle.laws.proofs.Facts.{termsOf-mem}
+use Rattle.laws.proofs.Facts.{fact-path, termsOf-mem}
 use Rattle.laws.proofs.Triggers.{Assignment, Loaded, triggers-mem}
 use Rattle.laws.proofs.Prefixes.{prefix-mem}
 use Rattle.laws_stages.specs.Reached.{Reached}
@@ -23,6 +25,7 @@ use Rattle.laws_stages.proofs.Outputs.{Fires, outputs-mem, mem-outputs, cyclicT
 use Rattle.laws_stages.proofs.Growth.{stage-zero-facts, stage-zero-terms, outputsOf, facts-from, facts-grow, outputs-added, arguments-in-terms, Named, terms-are-named}
 use Rattle.laws_stages.specs.Says.{CyclicAt, Cause, large, many, facts, terms}
 use Rattle.laws_stages.proofs.Verdict.{accepted-says, cyclicAt-says, refused-says, reached-before, accepted-closed}
+use Rattle.laws_stages.proofs.Arities.{critical-mem, mem-critical}
 use Rattle.laws_stages.proofs.Order.{Proper, proper-star, proper-skolem, terms-proper}
 use Rattle.laws_published.proofs.Closure.{loaded-trigger}
 use Rattle.laws_published.proofs.Blocked.{blocked-sound, blocked-complete}
@@ -47,10 +50,23 @@ mem-triggersIn b n e m t l =
     loaded-trigger (e .rule) (stage b n .terms) (stage b n .facts) m t l
     (λ u k. let (f, i, j) = termsOf-mem (stage b n .facts) k in arguments-in-terms b n i j)
 
+-- stage 0 is the critical instance
+pub critical-is-published : (b : RuleSet) (f : Fact) → List·Memᴰ f (critical 0 (b .arities)) ↔ Critical b f
+critical-is-published b f = (to, λ c. Memᴰ·cast (fact-path (sym (zero-add (f .predicate))) (c .stars)) (mem-critical 0 (b .arities) (f .predicate) (c .declared)))
+  where
+    to : List·Memᴰ f (critical 0 (b .arities)) → Critical b f
+    to m =
+        let (i, h, e) = critical-mem 0 (b .arities) m in
+        let k : f .predicate ≡ i = ap (λ (g : Fact). g .predicate) e ∙ zero-add i in
+        record {
+          declared = rw k h;
+          stars = ap (λ (g : Fact). g .arguments) e ∙ ap (λ (j : ℕ). replicate (getD (b .arities) j 0) star) (sym k);
+        }
+
 -- a stage that has all its outputs has the whole set: what the test blocks is blocked
 pub dmfa-within : (b : RuleSet) (n : ℕ) → ((g : Fact) → List·Memᴰ g (outputsOf b n) → List·Memᴰ g (stage b n .facts)) → {f : Fact} → Dmfa b f
     → List·Memᴰ f (stage b n .facts)
-dmfa-within b n h (start {f} i) = prefix-mem (facts-grow b 0 n (omega arith)) (rw (stage-zero-facts b) i)
+dmfa-within b n h (start {f} i) = prefix-mem (facts-grow b 0 n (omega arith)) (rw (stage-zero-facts b) (critical-is-published b f .1 i))
 dmfa-within b n h (step {f} e m i t l c o) =
     h f
     (mem-outputs (entries b) (stage b n)
@@ -122,7 +138,7 @@ module _ (b : RuleSet) (wf : WellFormed b) where
 
   -- a stage is within the set if the test sets of all earlier ones are within their limit
   pub stage-within-dmfa : (n : ℕ) → ((j : ℕ) → j < n → tooMany (entries b) (stage b j) ≡ false) → (f : Fact) → List·Memᴰ f (stage b n .facts) → Dmfa b f
-  stage-within-dmfa zero few f k = start (rw (stage-zero-facts b) at k)
+  stage-within-dmfa zero few f k = start (critical-is-published b f .0 (rw (stage-zero-facts b) at k))
   stage-within-dmfa (suc n) few f k = go (λ g i. stage-within-dmfa n (λ j h. few j (omega arith)) g i) (facts-from b n k)
     where
       added : ((g : Fact) → List·Memᴰ g (stage b n .facts) → Dmfa b g) → Fires (entries b) (stage b n) f → Dmfa b f
@@ -155,7 +171,7 @@ module _ (b : RuleSet) (wf : WellFormed b) where
   pub accepted-is-dmfa : {n f t : ℕ} → verdict b ≡ accepted n f t → (g : Fact) → List·Memᴰ g (stage b n .facts) ↔ Dmfa b g
   accepted-is-dmfa {n} h g =
       let a = accepted-says b wf h in
-      (reached-within-dmfa n (a .reached) g, dmfa-within b n (accepted-closed b wf a))
+      (reached-within-dmfa n (a .reached) g, dmfa-within b n (accepted-closed b a))
 
   -- and has no cyclic term
   pub accepted-is-acyclic : {n f t : ℕ} → verdict b ≡ accepted n f t → Acyclic b

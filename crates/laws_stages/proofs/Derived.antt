@@ -1,23 +1,22 @@
 -- The derivations of a stage: they give its outputs, are all there are, and rise by their keys (document 02, C-11). Assumes nothing.
 use mathlib.Core.Path.{_≡_, refl, sym, ap, _∙_, subst}
-use mathlib.Core.Bool.{Bool, true, false}
+use mathlib.Core.Bool.{true, false}
 use mathlib.Core.Logic.{_↔_, _⊎_, inl, inr}
-use mathlib.Core.List.{List, [], _∷_, _++_, map, List·Memᴰ, List·Memᴰ·head, List·Memᴰ·not-nil, List·Memᴰ·eq-of-singleton}
+use mathlib.Core.List.{List, [], _∷_, map, List·Memᴰ, List·Memᴰ·head, List·Memᴰ·not-nil, List·Memᴰ·eq-of-singleton}
 use Prim.Native.Nat.{ℕ, _<_}
-use Rattle.model.specs.Lists.{collect, keep}
+use Rattle.model.specs.Lists.{collect}
 use Rattle.model.specs.Term.{Term, same}
-use Rattle.model.specs.Rules.{Atom, Disjunct, RuleSet, Entry, entries, universal}
-use Rattle.model.specs.Triggers.{Fact, assign, assignments, instantiate, headTerm, headFacts, output, triggers, holds}
+use Rattle.model.specs.Rules.{Atom, Disjunct, Entry, universal}
+use Rattle.model.specs.Triggers.{assign, assignments, instantiate, headTerm, headFacts, output, triggers, holds}
 use Rattle.model.specs.Blocking.{blocked}
-use Rattle.model.specs.Stages.{Stage, stage, triggersIn, contribution, outputs}
+use Rattle.model.specs.Stages.{Stage, triggersIn, contribution, outputs}
 use Rattle.model.specs.Tables.{number}
-use Rattle.model.specs.Order.{Derivation, Derived, key, Less, at-first, later, Before, At, IsDerivation, numbered, derivedBy, derived}
+use Rattle.model.specs.Order.{Derived, key, Less, at-first, later, Before, At, IsDerivation, numbered, derivedBy, derived}
 use Rattle.laws.specs.Lists.{Distinct, Rises, rises-none, rises-one}
 use Rattle.laws.proofs.Bools.{case}
 use Rattle.laws.proofs.Lists.{collect-mem, mem-collect, map-mem, map-collect}
 use Rattle.laws.proofs.Terms.{same-decides}
 use Rattle.laws.proofs.Rises.{rises-map, rises-keep, rises-as, rises-collect, index-rises}
-use Rattle.laws_stages.proofs.Growth.{terms-distinct}
 use Rattle.laws_stages.proofs.Numbered.{less-prefix, less-append, map-numbered, numbered-at, at-numbered, rises-numbered}
 
 rises-single : {A : Type 0} {R : A → A → Type 0} (x : A) → Rises R (x ∷ [])

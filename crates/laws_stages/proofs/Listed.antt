@@ -13,8 +13,8 @@ use Rattle.model.specs.Triggers.{Fact, sameFact, present, termsOf}
 use Rattle.model.specs.Stages.{stage, outputs, cyclicTerms}
 use Rattle.model.specs.Order.{Derived, Before, derived, firsts}
 use Rattle.laws.specs.Lists.{Rises, rises-none, rises-one}
-use Rattle.laws.proofs.Bools.{case, not-both}
-use Rattle.laws.proofs.Lists.{Decides, any-eq-mem, any-eq-not-mem, mem-eq-any, extend-old, extend-new, extend-prefix, collect-append, keep-append, keep-nothing, keep-no}
+use Rattle.laws.proofs.Bools.{case}
+use Rattle.laws.proofs.Lists.{Decides, any-eq-mem, any-eq-not-mem, extend-old, extend-new, extend-prefix, collect-append, keep-append, keep-nothing, keep-no}
 use Rattle.laws.proofs.Terms.{same-decides}
 use Rattle.laws.proofs.Facts.{sameFact-decides, termsOf-mem, termsOf-append}
 use Rattle.laws.proofs.Extending.{extend-absorb}

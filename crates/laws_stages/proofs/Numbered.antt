@@ -1,8 +1,8 @@
 -- Laws of lists that are gone through with numbers: what is in them, their image, and when they rise. Assumes nothing.
-use mathlib.Core.Path.{_≡_, refl, sym, ap, ap₂, _∙_, subst}
+use mathlib.Core.Path.{_≡_, refl, sym, ap₂, _∙_, subst}
 use mathlib.Core.Logic.{_⊎_, inl, inr}
-use mathlib.Core.List.{List, [], _∷_, _++_, map, List·Memᴰ, List·Memᴰ·head, List·Memᴰ·tail, List·Memᴰ·not-nil, List·Memᴰ·append-cases, Memᴰ·append-left, Memᴰ·append-right, map-append}
-use Prim.Native.Nat.{ℕ, zero, suc, _+_, _<_}
+use mathlib.Core.List.{List, [], _∷_, _++_, map, List·Memᴰ, List·Memᴰ·not-nil, List·Memᴰ·append-cases, Memᴰ·append-left, Memᴰ·append-right, map-append}
+use Prim.Native.Nat.{ℕ, suc, _+_, _<_}
 use native.Mathlib.Nat.{add-zero, zero-add}
 use native.Mathlib.Omega.{arith}
 use Rattle.model.specs.Lists.{collect}
@@ -10,7 +10,19 @@ use Rattle.model.specs.Order.{At, here, there, numbered, Less, at-first, later}
 use Rattle.laws.specs.Lists.{Rises, rises-none}
 use Rattle.laws.proofs.Rises.{rises-append}
 
--- lexicographic order, with the same numbers in front, and with any behind
+-- lexicographic order is strict
+
+pub less-irreflexive : (xs : List ℕ) → Less xs xs → ⊥
+less-irreflexive (x ∷ xs) (at-first h) = omega arith
+less-irreflexive (x ∷ xs) (later l) = less-irreflexive xs l
+
+pub less-transitive : {xs ys zs : List ℕ} → Less xs ys → Less ys zs → Less xs zs
+less-transitive (at-first {x = x} h) (at-first {y = z} k) = let l : x < z = omega arith in at-first l
+less-transitive (at-first h) (later l) = at-first h
+less-transitive (later l) (at-first k) = at-first k
+less-transitive (later l) (later m) = later (less-transitive l m)
+
+-- with the same numbers in front, and with any behind
 
 pub less-prefix : (xs : List ℕ) {ys zs : List ℕ} → Less ys zs → Less (xs ++ ys) (xs ++ zs)
 less-prefix [] l = l

@@ -15,7 +15,7 @@ use Rattle.model.specs.Format.{Parsed, good, bad, read}
 use Rattle.model.specs.Stages.{Verdict, accepted, cyclicAt, refused, verdict}
 use Rattle.model.specs.Limits.{termsFront, factsFront}
 use Rattle.model.specs.Tables.{Checked, checked, left, recorded, fronted}
-use Rattle.laws.proofs.Bools.{case, and-true, true-and, is-false}
+use Rattle.laws.proofs.Bools.{and-true, true-and, is-false}
 use Rattle.laws_tables.specs.Lent.{Fronts, Short}
 use Rattle.laws_tables.proofs.Refusals.{Faulty, read-faulty, Excessive, verdict-excessive}
 

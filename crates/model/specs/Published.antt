@@ -1,14 +1,13 @@
--- The published notions, as inductive definitions (001, Definitions 3 and 4; 004, Definitions 39 to 50). `Blocking` and `Stages` compute them;
--- of the two only the critical instance is used here. Assumes nothing.
+-- The published notions, as inductive definitions (001, Definitions 3 and 4; 004, Definitions 39 to 50). `Blocking` and `Stages` compute them,
+-- and nothing of the two is used here. Assumes nothing.
 use mathlib.Core.Path.{_≡_}
 use mathlib.Core.List.{List, [], map, List·Memᴰ}
 use mathlib.Core.Bool.{true, false}
 use Prim.Native.Nat.{ℕ, _<_}
-use lib.ListN.{length, getD}
+use lib.ListN.{length, getD, replicate}
 use Rattle.model.specs.Term.{Position, root, child, Term, Terms, star, apart, fresh, skolem, list, functions}
 use Rattle.model.specs.Rules.{Atom, Rule, RuleSet, Disjunct, Entry, entries, inBody, universal, frontier, datalog, owns}
 use Rattle.model.specs.Triggers.{Fact, assign, instantiate, headFacts, output}
-use Rattle.model.specs.Stages.{critical}
 
 -- a substitution of a rule: a term for each variable of its body
 abbrev pub Substitution : Rule → List Term → Type 0
@@ -70,10 +69,15 @@ module _ (b : RuleSet) where
   abbrev pub Blocked : Entry → List Term → Type 0
   Blocked e m = (u : List Term) × Apart (e .rule) m u × WeaklyBlocked e (assign (universal (e .rule)) u)
 
+  -- the critical instance: each predicate of ⋆ alone (001, Definition 3)
+  pub record Critical (f : Fact) : Type 0 where
+    pub declared : f .predicate < length (b .arities)
+    pub stars : f .arguments ≡ replicate (getD (b .arities) (f .predicate) 0) star
+
   -- DMFA(R): the least set that contains the critical instance and the output of every loaded trigger that is not blocked
   -- (001, Definition 4; 004, Definition 50)
   pub data Dmfa : Fact → Type 0 where
-    start : {f : Fact} → List·Memᴰ f (critical 0 (b .arities)) → Dmfa f
+    start : {f : Fact} → Critical f → Dmfa f
     step : {f : Fact} (e : Entry) (m : List Term) → List·Memᴰ e (entries b) → Substitution (e .rule) m
         → ((a : Atom) → List·Memᴰ a (e .rule .body) → Dmfa (instantiate (assign (universal (e .rule)) m) a))
         → (Blocked e m → ⊥)

@@ -5,8 +5,6 @@ use mathlib.Core.List.{List}
 use Prim.Native.Nat.{ℕ, _≤_}
 use native.Mathlib.Omega.{arith}
 use lib.ListN.{length, getD}
-use Rattle.model.specs.Rules.{RuleSet}
-use Rattle.model.specs.Format.{good, read}
 use Rattle.model.specs.Stages.{refused}
 use Rattle.model.specs.Tables.{Checked, checked}
 use Rattle.model.specs.Text.{text, declared, textOf}
