@@ -24,15 +24,21 @@ extern "C" {
 #define RULFJEN_BOOK 6855   /* the longest rule set in bytes */
 #define RULFJEN_TEXT 72767  /* the longest text of an answer */
 
+/* How often one way down a term may meet one Skolem function: 1, 2 or 3; once more, and the term is cyclic. Each function
+ * that takes a depth refuses any other number with 18, before it looks at the rule set. */
+#define RULFJEN_DEPTH 1   /* the program's */
+#define RULFJEN_DEEPEST 3
+
 /* What rulfjen_check returns, and what it leaves in answer[0], [1], [2]. */
 #define RULFJEN_ACCEPTED 0 /* stage, count of facts, count of terms */
 #define RULFJEN_CYCLIC 1   /* the same; the cyclic term is the record behind the terms */
 #define RULFJEN_REFUSED 2  /* the refusal's number, its place, 0 */
 
-/* Checks a rule set and leaves the last stage in the lists. Refusals 1 to 10 leave both lists as they were; 11 to 14
- * leave zeros. `answer` has three places. */
-size_t rulfjen_check(const uint8_t *book, size_t book_length, uint16_t *terms, size_t terms_length, uint16_t *facts,
-                     size_t facts_length, size_t *answer);
+/* Checks a rule set at a depth and leaves the last stage in the lists. Refusals 1 to 10 and 18 leave both lists as they
+ * were; 11 to 14 leave zeros. A rule set that is accepted at one depth has the same answer and lists at each greater one.
+ * `answer` has three places. */
+size_t rulfjen_check(const uint8_t *book, size_t book_length, size_t depth, uint16_t *terms, size_t terms_length,
+                     uint16_t *facts, size_t facts_length, size_t *answer);
 
 /* The others return 0, or the number of a refusal, after which the list is as it was. `value` has one place: the count
  * that was read or written, or the refusal's place. */
@@ -43,9 +49,10 @@ size_t rulfjen_read(const uint8_t *book, size_t book_length, uint16_t *form, siz
 /* Writes the bytes of a form's rule set. */
 size_t rulfjen_write(const uint16_t *form, size_t form_length, uint8_t *book, size_t book_length, size_t *value);
 
-/* Writes the text of the check's answer, without a 0 behind it. A text list shorter than RULFJEN_TEXT is refusal 1; a
- * rule set that the check refuses is no refusal here, but a text that says so. */
-size_t rulfjen_print(const uint8_t *book, size_t book_length, uint8_t *text, size_t text_length, size_t *value);
+/* Writes the text of the check's answer at a depth, without a 0 behind it. A text list shorter than RULFJEN_TEXT is
+ * refusal 1, and a number that is no depth 18; a rule set that the check refuses is no refusal here, but a text that
+ * says so. */
+size_t rulfjen_print(const uint8_t *book, size_t book_length, size_t depth, uint8_t *text, size_t text_length, size_t *value);
 
 #ifdef __cplusplus
 }

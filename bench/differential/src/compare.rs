@@ -14,6 +14,16 @@ fn length(random: &mut Random, front: usize) -> usize {
     }
 }
 
+/// A depth, or now and then a number that is none.
+fn depth(random: &mut Random) -> usize {
+    match random.within(0, 19) {
+        0 => random.one_of(&[0, 4, 255, 256, 257, usize::MAX]),
+        1..=9 => 1,
+        10..=14 => 2,
+        _ => 3,
+    }
+}
+
 /// A list that is not clear, so that what is left untouched shows.
 fn dirt(random: &mut Random, length: usize) -> Vec<u16> {
     let mut x = random.next() | 1;
@@ -59,16 +69,18 @@ fn expect_list<T: PartialEq + std::fmt::Debug>(what: &str, reference: &[T], libr
     }
 }
 
-/// Compares answers, tables and text; answers what the reference says on lists of the right length, and on these.
+/// Compares answers, tables and text at some depth; answers what the reference says on lists of the right length, and on
+/// these.
 pub fn compare(book: &[u8], random: &mut Random) -> Result<(stages::Checked, Verdict), String> {
-    let checked = reference::check(book);
+    let depth = depth(random);
+    let checked = reference::check_at(book, depth.clamp(1, 3));
 
     let terms_length = length(random, stages::TERMS_FRONT);
     let facts_length = length(random, stages::FACTS_FRONT);
     let (mut terms, mut facts) = (dirt(random, terms_length), dirt(random, facts_length));
     let (mut library_terms, mut library_facts) = (terms.clone(), facts.clone());
-    let verdict = stages::check_into(book, &mut terms, &mut facts);
-    let library_verdict = same_verdict(lists::check(book, &mut library_terms, &mut library_facts));
+    let verdict = stages::check_into(book, depth, &mut terms, &mut facts);
+    let library_verdict = same_verdict(lists::check(book, depth, &mut library_terms, &mut library_facts));
     expect("verdict", &verdict, &library_verdict)?;
     expect_list("number of the terms", &terms, &library_terms)?;
     expect_list("number of the facts", &facts, &library_facts)?;
@@ -76,8 +88,8 @@ pub fn compare(book: &[u8], random: &mut Random) -> Result<(stages::Checked, Ver
     let text_length = length(random, reference::print::LONGEST);
     let mut text = bytes(&dirt(random, text_length));
     let mut library_text = text.clone();
-    let printed = reference::print::print_into(book, &mut text);
-    let library_printed = same_transfer(lists::print(book, &mut library_text));
+    let printed = reference::print::print_into(book, depth, &mut text);
+    let library_printed = same_transfer(lists::print(book, depth, &mut library_text));
     expect("length of the text", &printed, &library_printed)?;
     expect_list("byte of the text", &text, &library_text)?;
 

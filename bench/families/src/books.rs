@@ -6,13 +6,14 @@ pub struct Family {
     pub name: &'static str,
     /// What the size counts.
     pub size: &'static str,
+    pub depth: usize,
     /// Each size with its rule sets, which are timed together.
     pub members: Vec<(usize, Vec<Vec<u8>>)>,
 }
 
 fn family(name: &'static str, size: &'static str, sizes: &[usize], book: fn(usize) -> Draft) -> Family {
     let members = sizes.iter().map(|&n| (n, vec![book(n).book.bytes()])).collect();
-    Family { name, size, members }
+    Family { name, size, depth: 1, members }
 }
 
 const LETTERS: [u8; 4] = [0, 1, 2, 3];
@@ -225,6 +226,19 @@ pub fn limits(count: usize) -> Draft {
     draft
 }
 
+/// Lines of three generations: A(x) → ∃y. B(x,y); B(x,y) ∧ C(x) → A(y); B(x,y) ∧ B(y,z) ∧ C(x) → A(z). Accepted at depth 3
+/// and not before.
+fn pedigrees(lines: usize) -> Draft {
+    let mut draft = Draft::default();
+    for _ in 0..lines {
+        let (a, b, c) = (draft.predicate(1), draft.predicate(2), draft.predicate(1));
+        draft.rule(&[(a, &[0])], &[&[(b, &[0, 1])]]);
+        draft.rule(&[(b, &[0, 1]), (c, &[0])], &[&[(a, &[1])]]);
+        draft.rule(&[(b, &[0, 1]), (b, &[1, 2]), (c, &[0])], &[&[(a, &[2])]]);
+    }
+    draft
+}
+
 /// The rule sets of a folder of vectors, cut as the program cuts its input.
 fn vectors(folder: &str) -> std::io::Result<Family> {
     let mut names: Vec<_> =
@@ -237,14 +251,14 @@ fn vectors(folder: &str) -> std::io::Result<Family> {
         bytes.truncate(reference::print::HANDED);
         books.push(bytes);
     }
-    Ok(Family { name: "Vectors", size: "rule sets", members: vec![(books.len(), books)] })
+    Ok(Family { name: "Vectors", size: "rule sets", depth: 1, members: vec![(books.len(), books)] })
 }
 
 /// One vector, for the blocking tests that it stands for; its size counts them.
 fn tests(name: &'static str, folder: &str, file: &str) -> std::io::Result<Family> {
     let bytes = std::fs::read(format!("{folder}/{file}.book"))?;
     let count = reference::check(&bytes).seen.tested;
-    Ok(Family { name, size: "tests", members: vec![(count, vec![bytes])] })
+    Ok(Family { name, size: "tests", depth: 1, members: vec![(count, vec![bytes])] })
 }
 
 pub fn families(folder: &str) -> std::io::Result<Vec<Family>> {
@@ -258,6 +272,7 @@ pub fn families(folder: &str) -> std::io::Result<Vec<Family>> {
         family("Limits", "rules", &[16, 32, 64], limits),
         family("Cross", "terms", &[3, 6, 12, 13], cross_first),
         family("Cross, last", "terms", &[1, 2, 4], cross_last),
+        Family { depth: 3, ..family("Pedigrees, depth 3", "lines", &[5, 10, 20], pedigrees) },
         tests("Tests of up to 63 places", folder, "fork-5")?,
         tests("Test of 1,024 facts", folder, "test-set-1024")?,
         vectors(folder)?,

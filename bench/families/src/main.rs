@@ -19,40 +19,42 @@ struct Lists {
     facts: Vec<u16>,
 }
 
-fn reference_check(book: &[u8], lists: &mut Lists) -> Verdict {
-    reference::check_into(book, &mut lists.terms, &mut lists.facts)
+fn reference_check(book: &[u8], depth: usize, lists: &mut Lists) -> Verdict {
+    reference::check_into(book, depth, &mut lists.terms, &mut lists.facts)
 }
 
-fn library_check(book: &[u8], lists: &mut Lists) -> Verdict {
-    match rulfjen::lists::check(book, &mut lists.terms, &mut lists.facts) {
+fn library_check(book: &[u8], depth: usize, lists: &mut Lists) -> Verdict {
+    match rulfjen::lists::check(book, depth, &mut lists.terms, &mut lists.facts) {
         rulfjen::Verdict::Accepted { stage, facts, terms } => Verdict::Accepted { stage, facts, terms },
         rulfjen::Verdict::Cyclic { stage, facts, terms } => Verdict::Cyclic { stage, facts, terms },
         rulfjen::Verdict::Refused(refusal) => Verdict::Refused { number: refusal.number, place: refusal.place },
     }
 }
 
-fn time(check: fn(&[u8], &mut Lists) -> Verdict, books: &[Vec<u8>], lists: &mut Lists) -> Duration {
+type Check = fn(&[u8], usize, &mut Lists) -> Verdict;
+
+fn time(check: Check, books: &[Vec<u8>], depth: usize, lists: &mut Lists) -> Duration {
     let start = Instant::now();
     for book in books {
-        std::hint::black_box(check(std::hint::black_box(book), lists));
+        std::hint::black_box(check(std::hint::black_box(book), depth, lists));
     }
     start.elapsed()
 }
 
 /// Whether both give the same answers and lists.
-fn agree(books: &[Vec<u8>], ours: &mut Lists, theirs: &mut Lists) -> bool {
+fn agree(books: &[Vec<u8>], depth: usize, ours: &mut Lists, theirs: &mut Lists) -> bool {
     books.iter().all(|book| {
-        reference_check(book, ours) == library_check(book, theirs)
+        reference_check(book, depth, ours) == library_check(book, depth, theirs)
             && ours.terms == theirs.terms
             && ours.facts == theirs.facts
     })
 }
 
-fn answer(books: &[Vec<u8>], lists: &mut Lists) -> String {
+fn answer(books: &[Vec<u8>], depth: usize, lists: &mut Lists) -> String {
     if books.len() > 1 {
         return "all".to_string();
     }
-    match reference_check(&books[0], lists) {
+    match reference_check(&books[0], depth, lists) {
         Verdict::Accepted { stage, facts, terms } => format!("accepted {stage} {facts} {terms}"),
         Verdict::Cyclic { stage, facts, terms } => format!("cyclic {stage} {facts} {terms}"),
         Verdict::Refused { number, place } => format!("refused {number} {place}"),
@@ -83,7 +85,7 @@ fn main() -> std::io::Result<()> {
     for family in books::families(folder)? {
         let (mut rust_times, mut rattle_times) = (Vec::new(), Vec::new());
         for (size, books) in &family.members {
-            if !agree(books, &mut ours, &mut theirs) {
+            if !agree(books, family.depth, &mut ours, &mut theirs) {
                 println!("{} {size}: the answers differ", family.name);
                 good = false;
                 break;
@@ -92,12 +94,12 @@ fn main() -> std::io::Result<()> {
             let start = Instant::now();
             let mut runs = 0;
             while runs < 5 && start.elapsed() < PATIENCE || start.elapsed() < SPAN {
-                rust = rust.min(time(reference_check, books, &mut ours));
-                rattle = rattle.min(time(library_check, books, &mut theirs));
+                rust = rust.min(time(reference_check, books, family.depth, &mut ours));
+                rattle = rattle.min(time(library_check, books, family.depth, &mut theirs));
                 runs += 1;
             }
             let ratio = rattle.as_secs_f64() / rust.as_secs_f64();
-            let answer = answer(books, &mut ours);
+            let answer = answer(books, family.depth, &mut ours);
             let (of_rust, of_rattle) = (growth(&rust_times, *size, rust), growth(&rattle_times, *size, rattle));
             let times = format!(" {:.1} | {:.1} |", rust.as_secs_f64() * 1e6, rattle.as_secs_f64() * 1e6);
             println!(

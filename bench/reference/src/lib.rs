@@ -1,6 +1,6 @@
 //! Disjunctive model-faithful acyclicity of rule sets, a second time.
 //!
-//! A TEST INSTRUMENT: nothing here is proved. It is written from document 01 and C-11 alone, by value and with hash
+//! A TEST INSTRUMENT: nothing here is proved. It is written from document 01, C-11 and C-14 alone, by value and with hash
 //! tables, to be compared with the proved library and to be the yardstick for its speed.
 //!
 //! - `book`: rule sets, their bytes, refusals 2 to 10
@@ -27,4 +27,4 @@ pub mod terms;
 
 pub use book::{read, Atom, Book, Refusal, Rule};
 pub use print::{print, text};
-pub use stages::{check, check_into, Checked, Verdict};
+pub use stages::{check, check_at, check_into, Checked, Verdict};

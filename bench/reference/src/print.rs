@@ -1,8 +1,9 @@
 //! The text of an answer.
 
 use crate::book::{refuse, Refusal};
-use crate::stages::{check, Checked, Verdict};
+use crate::stages::{check_at, Checked, Verdict, DEPTHS};
 use std::fmt::Write;
+use std::path::{Path, PathBuf};
 
 /// What the program hands over of its input, at most.
 pub const HANDED: usize = 6_856;
@@ -43,16 +44,44 @@ pub fn text(checked: &Checked) -> String {
 
 /// What the program prints for these bytes.
 pub fn print(bytes: &[u8]) -> String {
-    text(&check(&bytes[..bytes.len().min(HANDED)]))
+    print_at(bytes, 1)
+}
+
+/// What it would print at another depth.
+pub fn print_at(bytes: &[u8], depth: usize) -> String {
+    text(&check_at(&bytes[..bytes.len().min(HANDED)], depth))
+}
+
+/// The texts that a vector NAME.book stands beside, with their depths: NAME.txt and NAME-depthD.txt.
+pub fn expected(book: &Path) -> std::io::Result<Vec<(usize, String)>> {
+    let mut texts = Vec::new();
+    let plain = book.with_extension("txt");
+    if plain.exists() {
+        texts.push((1, std::fs::read_to_string(plain)?));
+    }
+    let stem = book.with_extension("");
+    for depth in DEPTHS {
+        let deep = PathBuf::from(format!("{}-depth{depth}.txt", stem.display()));
+        if deep.exists() {
+            texts.push((depth, std::fs::read_to_string(deep)?));
+        }
+    }
+    if texts.is_empty() {
+        return Err(std::io::Error::other(format!("no text beside {}", book.display())));
+    }
+    Ok(texts)
 }
 
 /// Leaves the text of the check's answer in the front of `out`: its length, or refusal 1 for a list without room for
-/// the longest text.
-pub fn print_into(bytes: &[u8], out: &mut [u8]) -> Result<usize, Refusal> {
+/// the longest text, or 18 for a number that is no depth.
+pub fn print_into(bytes: &[u8], depth: usize, out: &mut [u8]) -> Result<usize, Refusal> {
     if out.len() < LONGEST {
         return refuse(1, 0);
     }
-    let text = text(&check(bytes));
+    if !DEPTHS.contains(&depth) {
+        return refuse(18, 0);
+    }
+    let text = text(&check_at(bytes, depth));
     out[..text.len()].copy_from_slice(text.as_bytes());
     Ok(text.len())
 }

@@ -54,8 +54,9 @@ pub struct Terms {
     numbers: Map<Term, u16>,
     /// Places of each term: one, and those of its arguments.
     sizes: Vec<u64>,
-    /// The Skolem functions in each term.
-    marks: Vec<Marks>,
+    /// The Skolem functions that stand on one way down each term: once in the first list, twice in the next, as far as
+    /// the depth.
+    marks: Vec<Vec<Marks>>,
 }
 
 pub fn holds(marks: &Marks, mark: u16) -> bool {
@@ -64,9 +65,10 @@ pub fn holds(marks: &Marks, mark: u16) -> bool {
 }
 
 impl Terms {
-    /// ⋆ alone.
-    pub fn critical() -> Terms {
-        let mut terms = Terms { all: Vec::new(), numbers: Map::default(), sizes: Vec::new(), marks: Vec::new() };
+    /// ⋆ alone, at a depth from 1 on.
+    pub fn critical(depth: usize) -> Terms {
+        let marks = vec![Vec::new(); depth];
+        let mut terms = Terms { all: Vec::new(), numbers: Map::default(), sizes: Vec::new(), marks };
         terms.insert(Term::STAR);
         terms
     }
@@ -87,33 +89,42 @@ impl Terms {
         self.sizes[number as usize]
     }
 
-    pub fn marks(&self, number: u16) -> &Marks {
-        &self.marks[number as usize]
+    /// The Skolem functions that stand on one way down a term as often as the depth allows.
+    pub fn full(&self, number: u16) -> &Marks {
+        &self.marks[self.marks.len() - 1][number as usize]
     }
 
     /// Whether a term over terms that are not cyclic is cyclic.
     pub fn cyclic(&self, term: &Term) -> bool {
-        term.arguments().iter().any(|&argument| holds(self.marks(argument), term.mark))
+        term.arguments().iter().any(|&argument| holds(self.full(argument), term.mark))
     }
 
     pub fn insert(&mut self, term: Term) -> u16 {
         let number = self.all.len() as u16;
         let mut size: u64 = 1;
-        let mut marks = [0; 7];
-        if term.mark > 0 {
-            let bit = term.mark - 1;
-            marks[bit as usize / 64] |= 1 << (bit % 64);
-        }
         for &argument in term.arguments() {
             size = size.saturating_add(self.size(argument));
-            for (word, of_argument) in marks.iter_mut().zip(self.marks(argument)) {
-                *word |= of_argument;
+        }
+        // its own function stands once more than below it
+        let mut met = term.mark > 0;
+        for level in &mut self.marks {
+            let mut marks = [0; 7];
+            for &argument in term.arguments() {
+                for (word, of_argument) in marks.iter_mut().zip(&level[argument as usize]) {
+                    *word |= of_argument;
+                }
             }
+            let below = met && holds(&marks, term.mark);
+            if met {
+                let bit = term.mark - 1;
+                marks[bit as usize / 64] |= 1 << (bit % 64);
+            }
+            met = below;
+            level.push(marks);
         }
         self.all.push(term);
         self.numbers.insert(term, number);
         self.sizes.push(size);
-        self.marks.push(marks);
         number
     }
 }

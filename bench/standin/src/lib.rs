@@ -34,13 +34,15 @@ fn transfer(result: Result<usize, Refusal>, value: &mut usize) -> usize {
 pub unsafe extern "C" fn rulfjen_check(
     book: *const u8,
     book_length: usize,
+    depth: usize,
     terms: *mut u16,
     terms_length: usize,
     facts: *mut u16,
     facts_length: usize,
     answer: *mut usize,
 ) -> usize {
-    let verdict = reference::check_into(list(book, book_length), lent(terms, terms_length), lent(facts, facts_length));
+    let verdict =
+        reference::check_into(list(book, book_length), depth, lent(terms, terms_length), lent(facts, facts_length));
     let (kind, numbers) = match verdict {
         Verdict::Accepted { stage, facts, terms } => (0, [stage, facts, terms]),
         Verdict::Cyclic { stage, facts, terms } => (1, [stage, facts, terms]),
@@ -82,9 +84,10 @@ pub unsafe extern "C" fn rulfjen_write(
 pub unsafe extern "C" fn rulfjen_print(
     book: *const u8,
     book_length: usize,
+    depth: usize,
     text: *mut u8,
     text_length: usize,
     value: *mut usize,
 ) -> usize {
-    transfer(reference::print::print_into(list(book, book_length), lent(text, text_length)), &mut *value)
+    transfer(reference::print::print_into(list(book, book_length), depth, lent(text, text_length)), &mut *value)
 }

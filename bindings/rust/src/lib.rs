@@ -16,7 +16,22 @@ pub const BOOK: usize = 6_855;
 /// Bytes of the longest text.
 pub const TEXT: usize = 72_767;
 
-/// A refusal's number, 1 to 14, and its place.
+/// How often one way down a term may meet one Skolem function; once more, and the term is cyclic. `One` is the program's.
+#[derive(Clone, Copy, PartialEq, Eq, PartialOrd, Ord, Hash, Debug, Default)]
+pub enum Depth {
+    #[default]
+    One = 1,
+    Two = 2,
+    Three = 3,
+}
+
+impl Depth {
+    pub fn number(self) -> usize {
+        self as usize
+    }
+}
+
+/// A refusal's number, 1 to 14 or 18, and its place.
 #[derive(Clone, Copy, PartialEq, Eq, Debug)]
 pub struct Refusal {
     pub number: u8,
@@ -67,10 +82,11 @@ impl Tables {
     }
 }
 
-/// Checks the bytes of a rule set, and leaves the last stage in the tables. Refusals 2 to 10 leave the tables as they
-/// were; 11 to 14 leave zeros.
-pub fn check(book: &[u8], tables: &mut Tables) -> Verdict {
-    lists::check(book, &mut tables.terms[..], &mut tables.facts[..])
+/// Checks the bytes of a rule set at a depth, and leaves the last stage in the tables. Refusals 2 to 10 leave the tables
+/// as they were; 11 to 14 leave zeros. A rule set that is accepted at one depth has the same answer and tables at each
+/// greater one.
+pub fn check(book: &[u8], depth: Depth, tables: &mut Tables) -> Verdict {
+    lists::check(book, depth.number(), &mut tables.terms[..], &mut tables.facts[..])
 }
 
 /// Reads a rule set into a form: the count of its bytes. A refusal leaves the form as it was.
@@ -83,19 +99,19 @@ pub fn write(form: &[u16; FORM], book: &mut [u8; BOOK]) -> Result<usize, Refusal
     lists::write(form, book)
 }
 
-/// The text of the check's answer.
-pub fn print<'a>(book: &[u8], text: &'a mut [u8; TEXT]) -> &'a str {
-    let length = lists::print(book, text).expect("the list is long enough for every text");
+/// The text of the check's answer at a depth.
+pub fn print<'a>(book: &[u8], depth: Depth, text: &'a mut [u8; TEXT]) -> &'a str {
+    let length = lists::print(book, depth.number(), text).expect("the list is long enough for every text");
     std::str::from_utf8(&text[..length]).expect("a text is ASCII")
 }
 
-/// The same functions for a caller's own lists, of any length: a short one is refusal 1, and nothing changes beyond
-/// what is asked for.
+/// The same functions for a caller's own lists, of any length, and any number for a depth: a short list is refusal 1, a
+/// number that is no depth 18, and nothing changes beyond what is asked for.
 pub mod lists {
     use super::{Refusal, Verdict};
 
     /// `TERMS` and `FACTS` numbers, or more.
-    pub fn check(book: &[u8], terms: &mut [u16], facts: &mut [u16]) -> Verdict {
+    pub fn check(book: &[u8], depth: usize, terms: &mut [u16], facts: &mut [u16]) -> Verdict {
         let mut answer = [0; 3];
         // SAFETY: pointers and lengths of slices that live through the call and do not overlap; three places
         let kind = unsafe {
@@ -103,6 +119,7 @@ pub mod lists {
             super::abi::rulfjen_check(
                 book.as_ptr(),
                 book.len(),
+                depth,
                 terms.0,
                 terms.1,
                 facts.0,
@@ -138,11 +155,11 @@ pub mod lists {
     }
 
     /// `TEXT` bytes, or more.
-    pub fn print(book: &[u8], text: &mut [u8]) -> Result<usize, Refusal> {
+    pub fn print(book: &[u8], depth: usize, text: &mut [u8]) -> Result<usize, Refusal> {
         let mut value = 0;
         // SAFETY: as above; one place
         transfer(&mut value, |value| unsafe {
-            super::abi::rulfjen_print(book.as_ptr(), book.len(), text.as_mut_ptr(), text.len(), value)
+            super::abi::rulfjen_print(book.as_ptr(), book.len(), depth, text.as_mut_ptr(), text.len(), value)
         })
     }
 
@@ -164,6 +181,7 @@ mod abi {
         pub fn rulfjen_check(
             book: *const u8,
             book_length: usize,
+            depth: usize,
             terms: *mut u16,
             terms_length: usize,
             facts: *mut u16,
@@ -187,6 +205,7 @@ mod abi {
         pub fn rulfjen_print(
             book: *const u8,
             book_length: usize,
+            depth: usize,
             text: *mut u8,
             text_length: usize,
             value: *mut usize,

@@ -9,9 +9,11 @@ use crate::judging::Judgement;
 use crate::judging::judge;
 use crate::verdict::Verdict;
 use reader::Transfer;
+ghost use mathlib.Core.Path.{_≡_};
 ghost use Prim.Native.Nat.{_≤_};
 ghost use lib.ListN.{length};
 ghost use Rattle.model.specs.Limits.{factRoom, termsFront, factsFront};
+ghost use Rattle.model.specs.Tables.{isDepth};
 ghost use Rattle.form.specs.Places.{Held};
 ghost use Rattle.tables.specs.TermHash.{KeptTerms};
 ghost use Rattle.facts.specs.Hashed.{Kept};
@@ -22,6 +24,9 @@ ghost use Rattle.dmfa.specs.Judging.{smallRoom, Checkable, Leaves, Check
 const TERMS_FRONT: usize = 5130;
 
 const FACTS_FRONT: usize = 10240;
+
+// The greatest depth.
+const DEPTH_LIMIT: usize = 3;
 
 // A term has ten numbers, a fact five.
 const TERM_WIDTH: usize = 10;
@@ -57,11 +62,12 @@ fn check_by(
     hashed: &mut [u16],
     terms: &mut [u16],
     facts: &mut [u16],
+    depth: u8,
 ) -> Checked
-    requires { ⌜ Checkable (now form) (now before) (now terms) (now facts) × KeptTerms (now room) 0 × Kept (now hashed) 0 factRoom ⌝ }
-    ensures { λ r. ⌜ CheckedAs (now (form .entry)) (length (now (room .entry))) (now (terms .entry)) (now (facts .entry)) r (now (terms .exit)) (now (facts .exit)) ⌝ }
+    requires { ⌜ Checkable depth (now form) (now before) (now terms) (now facts) × KeptTerms (now room) 0 × Kept (now hashed) 0 factRoom ⌝ }
+    ensures { λ r. ⌜ CheckedAs depth (now (form .entry)) (length (now (room .entry))) (now (terms .entry)) (now (facts .entry)) r (now (terms .exit)) (now (facts .exit)) ⌝ }
 {
-    let judgement = judge(form, before, &mut *room, &mut *hashed);
+    let judgement = judge(form, before, &mut *room, &mut *hashed, depth);
     match judgement {
         Judgement::Answer(verdict, n, m) => {
             fill(&*room, n * TERM_WIDTH, TERMS_FRONT, &mut *terms);
@@ -73,9 +79,15 @@ fn check_by(
 }
 
 // The verdict if 1,100 terms are room enough, as they are for nearly every rule set: less is to be cleared.
-fn check_small(form: &[u16], before: &[u16], terms: &mut [u16], facts: &mut [u16]) -> Checked
-    requires { ⌜ Checkable (now form) (now before) (now terms) (now facts) ⌝ }
-    ensures { λ r. ⌜ CheckedAs (now (form .entry)) smallRoom (now (terms .entry)) (now (facts .entry)) r (now (terms .exit)) (now (facts .exit)) ⌝ }
+fn check_small(
+    form: &[u16],
+    before: &[u16],
+    terms: &mut [u16],
+    facts: &mut [u16],
+    depth: u8,
+) -> Checked
+    requires { ⌜ Checkable depth (now form) (now before) (now terms) (now facts) ⌝ }
+    ensures { λ r. ⌜ CheckedAs depth (now (form .entry)) smallRoom (now (terms .entry)) (now (facts .entry)) r (now (terms .exit)) (now (facts .exit)) ⌝ }
 {
     let mut stage_terms = [0u16; SMALL_ROOM];
     let mut stage_facts = [0u16; FACTS_ROOM];
@@ -86,13 +98,20 @@ fn check_small(form: &[u16], before: &[u16], terms: &mut [u16], facts: &mut [u16
         &mut stage_facts[..],
         &mut *terms,
         &mut *facts,
+        depth,
     )
 }
 
 // The verdict with room for all terms that can be made of a stage, and for an output more.
-fn check_large(form: &[u16], before: &[u16], terms: &mut [u16], facts: &mut [u16]) -> Verdict
-    requires { ⌜ Checkable (now form) (now before) (now terms) (now facts) ⌝ }
-    ensures { λ r. ⌜ Leaves (now (form .entry)) (now (terms .entry)) (now (facts .entry)) r (now (terms .exit)) (now (facts .exit)) ⌝ }
+fn check_large(
+    form: &[u16],
+    before: &[u16],
+    terms: &mut [u16],
+    facts: &mut [u16],
+    depth: u8,
+) -> Verdict
+    requires { ⌜ Checkable depth (now form) (now before) (now terms) (now facts) ⌝ }
+    ensures { λ r. ⌜ Leaves depth (now (form .entry)) (now (terms .entry)) (now (facts .entry)) r (now (terms .exit)) (now (facts .exit)) ⌝ }
 {
     let mut stage_terms = [0u16; LARGE_ROOM];
     let mut stage_facts = [0u16; FACTS_ROOM];
@@ -103,6 +122,7 @@ fn check_large(form: &[u16], before: &[u16], terms: &mut [u16], facts: &mut [u16
         &mut stage_facts[..],
         &mut *terms,
         &mut *facts,
+        depth,
     );
     match large {
         Checked::Answer(verdict) => verdict,
@@ -111,23 +131,36 @@ fn check_large(form: &[u16], before: &[u16], terms: &mut [u16], facts: &mut [u16
     }
 }
 
-// The verdict on the rule set of a form, and the fronts of the caller's two tables.
-fn check_form(form: &[u16], terms: &mut [u16], facts: &mut [u16]) -> Verdict
-    requires { ⌜ Held (now form) × (termsFront ≤ length (now terms)) × (factsFront ≤ length (now facts)) ⌝ }
-    ensures { λ r. ⌜ Leaves (now (form .entry)) (now (terms .entry)) (now (facts .entry)) r (now (terms .exit)) (now (facts .exit)) ⌝ }
+// The verdict on the rule set of a form at a depth, and the fronts of the caller's two tables.
+fn check_form(form: &[u16], terms: &mut [u16], facts: &mut [u16], depth: u8) -> Verdict
+    requires { ⌜ (1 ≤ depth) × Held (now form) × (termsFront ≤ length (now terms)) × (factsFront ≤ length (now facts)) ⌝ }
+    ensures { λ r. ⌜ Leaves depth (now (form .entry)) (now (terms .entry)) (now (facts .entry)) r (now (terms .exit)) (now (facts .exit)) ⌝ }
 {
     let mut before = [0u16; DISJUNCTS];
     form_functions::number_functions(form, &mut before[..]);
-    let small = check_small(form, &before[..], &mut *terms, &mut *facts);
+    let small = check_small(form, &before[..], &mut *terms, &mut *facts, depth);
     match small {
         Checked::Answer(verdict) => verdict,
-        Checked::Short => check_large(form, &before[..], &mut *terms, &mut *facts),
+        Checked::Short => check_large(form, &before[..], &mut *terms, &mut *facts, depth),
     }
 }
 
-// The verdict on a rule set given as bytes, and the caller's two tables.
-pub fn check(bytes: &[u8], terms: &mut [u16], facts: &mut [u16]) -> Verdict
-    ensures { λ r. ⌜ Checks (now (bytes .entry)) (now (terms .entry)) (now (facts .entry)) r (now (terms .exit)) (now (facts .exit)) ⌝ }
+// Whether a number is a depth: 1, 2 or 3.
+pub fn is_depth(depth: usize) -> bool
+    ensures { λ r. ⌜ r ≡ isDepth depth ⌝ }
+{
+    if depth < 1 {
+        return false;
+    }
+    if DEPTH_LIMIT < depth {
+        return false;
+    }
+    true
+}
+
+// The verdict on a rule set given as bytes, at a depth from 1 to 3, and the caller's two tables.
+pub fn check(bytes: &[u8], depth: usize, terms: &mut [u16], facts: &mut [u16]) -> Verdict
+    ensures { λ r. ⌜ Checks depth (now (bytes .entry)) (now (terms .entry)) (now (facts .entry)) r (now (terms .exit)) (now (facts .exit)) ⌝ }
 {
     if terms.len() < TERMS_FRONT {
         return Verdict::Refused(1, 0);
@@ -135,10 +168,13 @@ pub fn check(bytes: &[u8], terms: &mut [u16], facts: &mut [u16]) -> Verdict
     if facts.len() < FACTS_FRONT {
         return Verdict::Refused(1, 0);
     }
+    if !is_depth(depth) {
+        return Verdict::Refused(18, 0);
+    }
     let mut form = [0u16; FORM_LENGTH];
     let read = reader::read(bytes, &mut form[..]);
     match read {
-        Transfer::Done(_) => check_form(&form[..], &mut *terms, &mut *facts),
+        Transfer::Done(_) => { check_form(&form[..], &mut *terms, &mut *facts, depth as u8) }
         Transfer::Refusal(refusal, place) => Verdict::Refused(refusal as usize, place),
     }
 }

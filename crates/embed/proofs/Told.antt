@@ -13,6 +13,7 @@ use Rattle.model.specs.Format.{Parsed, good, bad, read}
 use Rattle.model.specs.Stages.{Verdict, accepted, cyclicAt, refused}
 use Rattle.model.specs.Form.{Transfer, done, refusal, formLength, reading, Writing, writing}
 use Rattle.model.specs.Limits.{termsFront, factsFront}
+use Rattle.model.specs.Tables.{isDepth}
 use Rattle.laws.proofs.Bools.{case}
 use Rattle.laws_format.proofs.RoundTrip.{reading-short, reading-bad, reading-good, Written, faulty, short, whole, writing-written}
 use Rattle.laws_tables.proofs.Refusals.{Faulty, read-faulty}
@@ -57,13 +58,14 @@ writing-numbered form out = go (writing-written form out)
     go (short w l) = omega arith
     go (whole w l) = tt
 
-pub printing-numbered : (bytes terms facts out : List ℕ) → Numbered (printing bytes terms facts out .answer)
+pub printing-numbered : (depth : ℕ) (bytes terms facts out : List ℕ) → Numbered (printing depth bytes terms facts out .answer)
 unfolding printing
-printing-numbered bytes terms facts out = go (case test)
+printing-numbered depth bytes terms facts out = go (case test) (case (isDepth depth))
   where
     test : Bool
     test = leb termsFront (length terms) && leb factsFront (length facts) && leb textRoom (length out)
 
-    go : (test ≡ true) ⊎ (test ≡ false) → Numbered (printing bytes terms facts out .answer)
-    go (inl t) = rw (t, printing) tt
-    go (inr t) = rw (t, printing) (omega arith)
+    go : (test ≡ true) ⊎ (test ≡ false) → (isDepth depth ≡ true) ⊎ (isDepth depth ≡ false) → Numbered (printing depth bytes terms facts out .answer)
+    go (inl t) (inl d) = rw (t, d, printing) tt
+    go (inl t) (inr d) = rw (t, d, printing) (omega arith)
+    go (inr t) d = rw (t, printing) (omega arith)

@@ -50,17 +50,18 @@ fn judgement(verdict: Verdict, answer: &mut [usize; 3]) -> usize
     }
 }
 
-// Checks a rule set, and leaves the last stage in the caller's tables.
+// Checks a rule set at a depth, and leaves the last stage in the caller's tables.
 #[no_mangle]
 pub extern "C" fn rulfjen_check(
     book: &[u8],
+    depth: usize,
     terms: &mut [u16],
     facts: &mut [u16],
     answer: &mut [usize; 3],
 ) -> usize
-    ensures { λ r. ⌜ ofChecked (checked (now (book .entry)) (now (terms .entry)) (now (facts .entry))) ≡ record { number = r; answer = now (answer .exit); terms = now (terms .exit); facts = now (facts .exit) } ⌝ }
+    ensures { λ r. ⌜ ofChecked (checked depth (now (book .entry)) (now (terms .entry)) (now (facts .entry))) ≡ record { number = r; answer = now (answer .exit); terms = now (terms .exit); facts = now (facts .exit) } ⌝ }
 {
-    let verdict = dmfa::check(book, &mut *terms, &mut *facts);
+    let verdict = dmfa::check(book, depth, &mut *terms, &mut *facts);
     judgement(verdict, &mut *answer)
 }
 
@@ -82,13 +83,18 @@ pub extern "C" fn rulfjen_write(form: &[u16], book: &mut [u8], value: &mut usize
     transfer(answer, &mut *value)
 }
 
-// Writes the text of the check's answer. The check's tables are local.
+// Writes the text of the check's answer at a depth. The check's tables are local.
 #[no_mangle]
-pub extern "C" fn rulfjen_print(book: &[u8], text: &mut [u8], value: &mut usize) -> usize
-    ensures { λ r. ⌜ ofPrinting (printing (now (book .entry)) (replicate termsFront 0) (replicate factsFront 0) (now (text .entry))) ≡ record { number = r; value = now (value .exit); list = now (text .exit) } ⌝ }
+pub extern "C" fn rulfjen_print(
+    book: &[u8],
+    depth: usize,
+    text: &mut [u8],
+    value: &mut usize,
+) -> usize
+    ensures { λ r. ⌜ ofPrinting (printing depth (now (book .entry)) (replicate termsFront 0) (replicate factsFront 0) (now (text .entry))) ≡ record { number = r; value = now (value .exit); list = now (text .exit) } ⌝ }
 {
     let mut terms = [0u16; TERMS_FRONT];
     let mut facts = [0u16; FACTS_FRONT];
-    let answer = report::print(book, &mut terms, &mut facts, &mut *text);
+    let answer = report::print(book, depth, &mut terms, &mut facts, &mut *text);
     transfer(answer, &mut *value)
 }

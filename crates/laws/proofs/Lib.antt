@@ -6,6 +6,7 @@ pub mod Rising
 pub mod Rises
 pub mod Prefixes
 pub mod Terms
+pub mod Nesting
 pub mod Facts
 pub mod Rules
 pub mod Owners

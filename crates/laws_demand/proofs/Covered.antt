@@ -37,7 +37,6 @@ pub record Saturated (b : RuleSet) (listed : List Fact) : Type 0 where
   pub critical : (f : Fact) → List·Memᴰ f (critical 0 (b .arities)) → List·Memᴰ f listed
   pub outputs : (e : Entry) (m : List Term) → List·Memᴰ e (entries b) → Substitution (e .rule) m → Loaded (e .rule) listed (assign (universal (e .rule)) m)
       → blocked (entries b) e m ≡ false → (f : Fact) → List·Memᴰ f (output (assign (universal (e .rule)) m) (e .disjuncts)) → List·Memᴰ f listed
-  pub acyclic : (f : Fact) → List·Memᴰ f listed → any cyclic (f .arguments) ≡ false
 
 -- what holds of every set that a filling reaches
 pub record Followed (b : RuleSet) (listed : List Fact) (fs : List Fact) : Type 0 where
@@ -133,11 +132,14 @@ unfolding chase
 chase-followed w z [] s x = x
 chase-followed {b} w z (a ∷ as') s x = chase-followed w z as' (attempt b a s) (attempt-followed w z a s x)
 
--- every filling from an instance: its facts are covered, and so none has a cyclic term
+-- every filling from an instance: its facts are covered
 pub chase-covered : {b : RuleSet} → WellFormed b → {listed : List Fact} → Saturated b listed → (instance' : List Fact)
     → ((f : Fact) → List·Memᴰ f instance' → Over b f) → (attempts : List Attempt) (f : Fact) → List·Memᴰ f (chase b attempts (initial instance') .facts)
-    → List·Memᴰ (starredFact f) listed × (any cyclic (f .arguments) ≡ false)
+    → List·Memᴰ (starredFact f) listed
+chase-covered w z instance' over attempts f m = chase-followed w z attempts (initial instance') (initial-followed z instance' over) .covered f m
+
+-- and so none has a cyclic term where no listed fact has one
+pub covered-acyclic : (d : ℕ) {listed : List Fact} → ((g : Fact) → List·Memᴰ g listed → any (cyclic d) (g .arguments) ≡ false)
+    → (f : Fact) → List·Memᴰ (starredFact f) listed → any (cyclic d) (f .arguments) ≡ false
 unfolding starredFact
-chase-covered {b} w z instance' over attempts f m =
-    let c = chase-followed w z attempts (initial instance') (initial-followed z instance' over) .covered f m in
-    (c, sym (any-cyclic-starred (f .arguments)) ∙ z .acyclic (starredFact f) c)
+covered-acyclic d acyclic f c = sym (any-cyclic-starred d (f .arguments)) ∙ acyclic (starredFact f) c

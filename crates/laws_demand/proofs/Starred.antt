@@ -1,15 +1,17 @@
 -- ⋆ for each constant is a map that commutes with Skolem functions; it keeps what is cyclic, and the blocking test does not see it
 -- (004, Lemma 46). Assumes nothing.
-use mathlib.Core.Path.{_≡_, refl, ap, ap₂}
-use mathlib.Core.Bool.{Bool, true, false, _||_}
+use mathlib.Core.Path.{_≡_, refl, ap, ap₂, _∙_}
+use mathlib.Core.Bool.{Bool, true, false}
 use mathlib.Core.List.{List, [], _∷_, _++_, map}
-use Prim.Native.Nat.{ℕ, suc}
-use Rattle.model.specs.Lists.{all, any, member}
-use Rattle.model.specs.Term.{Position, child, root, Term, Terms, star, constant, apart, fresh, skolem, none, more, terms, functions, functionsAll, cyclic, cyclicAny, starred, starredAll}
+use Prim.Native.Nat.{ℕ, suc, max}
+use lib.Dec.{ltb}
+use Rattle.model.specs.Lists.{all, any}
+use Rattle.model.specs.Term.{Position, child, root, Term, Terms, star, constant, apart, fresh, skolem, none, more, terms, functions, functionsAll, meeting, nesting, nestingAny, cyclic, starred, starredAll}
 use Rattle.model.specs.Rules.{Disjunct, Entry, universal, blockable}
 use Rattle.model.specs.Triggers.{Fact, present, assign, headFacts}
 use Rattle.model.specs.Blocking.{rename, renameAll, renamed, saturate, testBase, testSet, blocked}
 use Rattle.model.specs.Demand.{starredFact}
+use Rattle.laws.proofs.Lists.{any-agree, any-image}
 use Rattle.laws_demand.proofs.Maps.{Commutes, mapFact}
 
 starredAll-terms : (ts : List Term) → starredAll (terms ts) ≡ terms (map starred ts)
@@ -42,23 +44,27 @@ mutual
   functionsAll-starred (more t ts) = ap₂ (λ (fs gs : List ℕ). fs ++ gs) (functions-starred t) (functionsAll-starred ts)
 
 mutual
-  unfolding cyclic cyclicAny starred starredAll
+  unfolding nesting nestingAny starred starredAll
 
-  pub cyclic-starred : (t : Term) → cyclic (starred t) ≡ cyclic t
-  cyclic-starred star = refl
-  cyclic-starred (constant c) = refl
-  cyclic-starred (apart p) = refl
-  cyclic-starred (fresh t v) = refl
-  cyclic-starred (skolem f ts) = ap₂ (λ (fs : List ℕ) (x : Bool). member f fs || x) (functionsAll-starred ts) (cyclicAny-starred ts)
+  nesting-starred : (f : ℕ) (t : Term) → nesting f (starred t) ≡ nesting f t
+  nesting-starred f star = refl
+  nesting-starred f (constant c) = refl
+  nesting-starred f (apart p) = refl
+  nesting-starred f (fresh t v) = refl
+  nesting-starred f (skolem g ts) = ap (meeting f g) (nestingAny-starred f ts)
 
-  cyclicAny-starred : (ts : Terms) → cyclicAny (starredAll ts) ≡ cyclicAny ts
-  cyclicAny-starred none = refl
-  cyclicAny-starred (more t ts) = ap₂ (λ (x y : Bool). x || y) (cyclic-starred t) (cyclicAny-starred ts)
+  nestingAny-starred : (f : ℕ) (ts : Terms) → nestingAny f (starredAll ts) ≡ nestingAny f ts
+  nestingAny-starred f none = refl
+  nestingAny-starred f (more t ts) = ap₂ max (nesting-starred f t) (nestingAny-starred f ts)
 
-pub any-cyclic-starred : (ts : List Term) → any cyclic (map starred ts) ≡ any cyclic ts
-unfolding any
-any-cyclic-starred [] = refl
-any-cyclic-starred (t ∷ ts) = ap₂ (λ (x y : Bool). x || y) (cyclic-starred t) (any-cyclic-starred ts)
+pub cyclic-starred : (d : ℕ) (t : Term) → cyclic d (starred t) ≡ cyclic d t
+unfolding cyclic
+cyclic-starred d t =
+    any-agree (λ (f : ℕ). ltb d (nesting f (starred t))) (λ (f : ℕ). ltb d (nesting f t)) (functions (starred t)) (λ f m. ap (ltb d) (nesting-starred f t))
+    ∙ ap (any (λ (f : ℕ). ltb d (nesting f t))) (functions-starred t)
+
+pub any-cyclic-starred : (d : ℕ) (ts : List Term) → any (cyclic d) (map starred ts) ≡ any (cyclic d) ts
+any-cyclic-starred d ts = any-image (cyclic d) (cyclic d) starred ts (λ t m. cyclic-starred d t)
 
 -- the blocking test
 

@@ -9,7 +9,8 @@ use native.Mathlib.Nat.{zero-add}
 use native.Mathlib.Omega.{arith}
 use native.Mathlib.Decide.{decLt}
 use lib.ListN.{getD, replicate}
-use Rattle.model.specs.Term.{Term, star, cyclic}
+use Rattle.model.specs.Lists.{any}
+use Rattle.model.specs.Term.{Term, star, functions, cyclic}
 use Rattle.model.specs.Rules.{RuleSet, Entry, entries, universal, blockable}
 use Rattle.model.specs.WellFormed.{WellFormed}
 use Rattle.model.specs.Triggers.{Fact, assign, instantiate}
@@ -84,36 +85,36 @@ dmfa-within b n h (step {f} e m i t l c o) =
 stage-zero-star : (b : RuleSet) {t : Term} → List·Memᴰ t (stage b 0 .terms) → t ≡ star
 stage-zero-star b {t} k = List·Memᴰ·eq-of-singleton (rw (stage-zero-terms b) at k)
 
-cyclic-star : cyclic star ≡ false
-unfolding cyclic
-cyclic-star = refl
+cyclic-star : (d : ℕ) → cyclic d star ≡ false
+unfolding cyclic functions any
+cyclic-star d = refl
 
-pub stage-acyclic : (b : RuleSet) (n : ℕ) → ((j : ℕ) → j < n → cyclicTerms (entries b) (stage b j) ≡ []) → (f : Fact) → List·Memᴰ f (stage b n .facts)
-    → (t : Term) → List·Memᴰ t (f .arguments) → cyclic t ≡ false
-stage-acyclic b zero none f k t m = ap cyclic (stage-zero-star b (arguments-in-terms b 0 k m)) ∙ cyclic-star
-stage-acyclic b (suc n) none f k t m = go (λ i. stage-acyclic b n (λ j h. none j (omega arith)) f i t m) (facts-from b n k)
+pub stage-acyclic : (d : ℕ) (b : RuleSet) (n : ℕ) → ((j : ℕ) → j < n → cyclicTerms d (entries b) (stage b j) ≡ []) → (f : Fact) → List·Memᴰ f (stage b n .facts)
+    → (t : Term) → List·Memᴰ t (f .arguments) → cyclic d t ≡ false
+stage-acyclic d b zero none f k t m = ap (cyclic d) (stage-zero-star b (arguments-in-terms b 0 k m)) ∙ cyclic-star d
+stage-acyclic d b (suc n) none f k t m = go (λ i. stage-acyclic d b n (λ j h. none j (omega arith)) f i t m) (facts-from b n k)
   where
-    go : (List·Memᴰ f (stage b n .facts) → cyclic t ≡ false) → List·Memᴰ f (stage b n .facts) ⊎ List·Memᴰ f (outputsOf b n) → cyclic t ≡ false
+    go : (List·Memᴰ f (stage b n .facts) → cyclic d t ≡ false) → List·Memᴰ f (stage b n .facts) ⊎ List·Memᴰ f (outputsOf b n) → cyclic d t ≡ false
     go below (inl i) = below i
-    go below (inr i) = outputs-acyclic (entries b) (stage b n) (none n (omega arith)) i m
+    go below (inr i) = outputs-acyclic d (entries b) (stage b n) (none n (omega arith)) i m
 
-pub reached-acyclic : (b : RuleSet) (n : ℕ) → Reached b n → (t : Term) → List·Memᴰ t (stage b n .terms) → cyclic t ≡ false
-reached-acyclic b n r t k =
-    ⊎-elim (λ (e : t ≡ star). ap cyclic e ∙ cyclic-star)
-    (λ (i : Named (stage b n .facts) t). stage-acyclic b n (λ j h. r .passed j h .acyclic) (i .fact) (i .known) t (i .argument)) (terms-are-named b n k)
+pub reached-acyclic : {d : ℕ} (b : RuleSet) (n : ℕ) → Reached d b n → (t : Term) → List·Memᴰ t (stage b n .terms) → cyclic d t ≡ false
+reached-acyclic {d} b n r t k =
+    ⊎-elim (λ (e : t ≡ star). ap (cyclic d) e ∙ cyclic-star d)
+    (λ (i : Named (stage b n .facts) t). stage-acyclic d b n (λ j h. r .passed j h .acyclic) (i .fact) (i .known) t (i .argument)) (terms-are-named b n k)
 
 -- what `cyclic` claims of its stage and of the term shown
-pub record Witness (b : RuleSet) (n : ℕ) (u : Term) : Type 0 where
-  pub loops : cyclic u ≡ true
+pub record Witness (d : ℕ) (b : RuleSet) (n : ℕ) (u : Term) : Type 0 where
+  pub loops : cyclic d u ≡ true
   pub fact : Fact
   pub known : List·Memᴰ fact (stage b n .facts)
   pub argument : List·Memᴰ u (fact .arguments)
   pub within : (g : Fact) → List·Memᴰ g (stage b n .facts) → Dmfa b g
-  pub first : (j : ℕ) → j < n → (v : Term) → List·Memᴰ v (stage b j .terms) → cyclic v ≡ false
+  pub first : (j : ℕ) → j < n → (v : Term) → List·Memᴰ v (stage b j .terms) → cyclic d v ≡ false
 
--- the rule set is DMFA: its set has no cyclic term (001, Definition 4)
-abbrev pub Acyclic : RuleSet → Type 0
-Acyclic b = (g : Fact) → Dmfa b g → (u : Term) → List·Memᴰ u (g .arguments) → cyclic u ≡ false
+-- the rule set is DMFA at depth d: its set has no cyclic term (001, Definition 4)
+abbrev pub Acyclic : ℕ → RuleSet → Type 0
+Acyclic d b = (g : Fact) → Dmfa b g → (u : Term) → List·Memᴰ u (g .arguments) → cyclic d u ≡ false
 
 module _ (b : RuleSet) (wf : WellFormed b) where
   trigger-grounded : (n : ℕ) (e : Entry) (m : List Term) → List·Memᴰ m (triggersIn (stage b n) e) → (t : Term) → List·Memᴰ t m → Grounded t
@@ -153,11 +154,11 @@ module _ (b : RuleSet) (wf : WellFormed b) where
       go below (inl i) = below f i
       go below (inr i) = added below (outputs-mem (entries b) (stage b n) i)
 
-  pub reached-within-dmfa : (n : ℕ) → Reached b n → (f : Fact) → List·Memᴰ f (stage b n .facts) → Dmfa b f
+  pub reached-within-dmfa : {d : ℕ} (n : ℕ) → Reached d b n → (f : Fact) → List·Memᴰ f (stage b n .facts) → Dmfa b f
   reached-within-dmfa n r = stage-within-dmfa n (λ j h. r .passed j h .few)
 
   -- and so is the stage after it, if its own test sets are within their limit too
-  pub next-within-dmfa : (n : ℕ) → Reached b n → tooMany (entries b) (stage b n) ≡ false → (f : Fact) → List·Memᴰ f (stage b (suc n) .facts) → Dmfa b f
+  pub next-within-dmfa : {d : ℕ} (n : ℕ) → Reached d b n → tooMany (entries b) (stage b n) ≡ false → (f : Fact) → List·Memᴰ f (stage b (suc n) .facts) → Dmfa b f
   next-within-dmfa n r few = stage-within-dmfa (suc n) each
     where
       each : (j : ℕ) → j < suc n → tooMany (entries b) (stage b j) ≡ false
@@ -167,56 +168,59 @@ module _ (b : RuleSet) (wf : WellFormed b) where
           go (yes i) = r .passed j i .few
           go (no i) = let e : j ≡ n = omega arith in rw e few
 
+-- what the verdict at depth d says of the set
+
+module _ (d : ℕ) (b : RuleSet) (wf : WellFormed b) where
   -- the list of an accepted rule set is the DMFA set
-  pub accepted-is-dmfa : {n f t : ℕ} → verdict b ≡ accepted n f t → (g : Fact) → List·Memᴰ g (stage b n .facts) ↔ Dmfa b g
+  pub accepted-is-dmfa : {n f t : ℕ} → verdict d b ≡ accepted n f t → (g : Fact) → List·Memᴰ g (stage b n .facts) ↔ Dmfa b g
   accepted-is-dmfa {n} h g =
-      let a = accepted-says b wf h in
-      (reached-within-dmfa n (a .reached) g, dmfa-within b n (accepted-closed b a))
+      let a = accepted-says d b wf h in
+      (reached-within-dmfa b wf n (a .reached) g, dmfa-within b n (accepted-closed b a))
 
   -- and has no cyclic term
-  pub accepted-is-acyclic : {n f t : ℕ} → verdict b ≡ accepted n f t → Acyclic b
-  accepted-is-acyclic {n} h g k u m = reached-acyclic b n (accepted-says b wf h .reached) u (arguments-in-terms b n (accepted-is-dmfa h g .1 k) m)
+  pub accepted-is-acyclic : {n f t : ℕ} → verdict d b ≡ accepted n f t → Acyclic d b
+  accepted-is-acyclic {n} h g k u m = reached-acyclic b n (accepted-says d b wf h .reached) u (arguments-in-terms b n (accepted-is-dmfa h g .1 k) m)
 
-  pub cyclicAt-witness : {n f t : ℕ} (l : CyclicAt b n f t) → Witness b n (l .shown)
+  pub cyclicAt-witness : {n f t : ℕ} (l : CyclicAt d b n f t) → Witness d b n (l .shown)
   cyclicAt-witness {n} l =
       let k = l .last in
-      let (c, (g, i, m)) = cyclicTerms-mem (entries b) (stage b k) {t = l .shown} (rw (l .found) (List·Memᴰ·head refl)) in
-      subst (λ (x : ℕ). Witness b x (l .shown)) (sym (l .next))
+      let (c, (g, i, m)) = cyclicTerms-mem d (entries b) (stage b k) {t = l .shown} (rw (l .found) (List·Memᴰ·head refl)) in
+      subst (λ (x : ℕ). Witness d b x (l .shown)) (sym (l .next))
       (record {
         loops = c;
         fact = g;
         known = outputs-added b k i;
         argument = m;
-        within = next-within-dmfa k (l .reached) (l .few);
+        within = next-within-dmfa b wf k (l .reached) (l .few);
         first = λ j h v q. reached-acyclic b j (reached-before b k j (omega arith) (l .reached)) v q;
       })
 
   -- the term shown is a cyclic one of the DMFA set, and no earlier stage holds one
-  pub cyclic-is-reached : {n f t : ℕ} (h : verdict b ≡ cyclicAt n f t) → Witness b n (cyclicAt-says b wf h .shown)
-  cyclic-is-reached h = cyclicAt-witness (cyclicAt-says b wf h)
+  pub cyclic-is-reached : {n f t : ℕ} (h : verdict d b ≡ cyclicAt n f t) → Witness d b n (cyclicAt-says d b wf h .shown)
+  cyclic-is-reached h = cyclicAt-witness (cyclicAt-says d b wf h)
 
-  pub cyclicAt-is-cyclic : {n f t : ℕ} → verdict b ≡ cyclicAt n f t → Acyclic b → ⊥
+  pub cyclicAt-is-cyclic : {n f t : ℕ} → verdict d b ≡ cyclicAt n f t → Acyclic d b → ⊥
   cyclicAt-is-cyclic h a =
-      let u = cyclicAt-says b wf h .shown in
+      let u = cyclicAt-says d b wf h .shown in
       let w = cyclic-is-reached h in
-      not-both (cyclic u) (w .loops) (a (w .fact) (w .within (w .fact) (w .known)) u (w .argument))
+      not-both (cyclic d u) (w .loops) (a (w .fact) (w .within (w .fact) (w .known)) u (w .argument))
 
   -- the last stage made before a refusal is within the set
-  pub refused-within-dmfa : {n k : ℕ} → verdict b ≡ refused n (suc k) → (f : Fact) → List·Memᴰ f (stage b k .facts) → Dmfa b f
+  pub refused-within-dmfa : {n k : ℕ} → verdict d b ≡ refused n (suc k) → (f : Fact) → List·Memᴰ f (stage b k .facts) → Dmfa b f
   refused-within-dmfa {k = k} h =
-      let r = refused-says b wf h in
+      let r = refused-says d b wf h in
       let e = r .next in
       let i : k ≡ r .last = omega arith in
-      rw i (reached-within-dmfa (r .last) (r .reached))
+      rw i (reached-within-dmfa b wf (r .last) (r .reached))
 
-  cause-few : (k : ℕ) {n : ℕ} → Cause b k n → 13 ≤ n → tooMany (entries b) (stage b k) ≡ false
+  cause-few : (k : ℕ) {n : ℕ} → Cause d b k n → 13 ≤ n → tooMany (entries b) (stage b k) ≡ false
   cause-few k (large i) h = absurd (omega arith)
   cause-few k (many i j) h = absurd (omega arith)
   cause-few k (facts i j c l) h = j
   cause-few k (terms i j c l o) h = j
 
   -- and so is the stage that is refused for its facts or terms
-  pub refused-stage-within-dmfa : {n p : ℕ} → verdict b ≡ refused n p → 13 ≤ n → (f : Fact) → List·Memᴰ f (stage b p .facts) → Dmfa b f
+  pub refused-stage-within-dmfa : {n p : ℕ} → verdict d b ≡ refused n p → 13 ≤ n → (f : Fact) → List·Memᴰ f (stage b p .facts) → Dmfa b f
   refused-stage-within-dmfa h i =
-      let r = refused-says b wf h in
-      rw (r .next) (next-within-dmfa (r .last) (r .reached) (cause-few (r .last) (r .cause) i))
+      let r = refused-says d b wf h in
+      rw (r .next) (next-within-dmfa b wf (r .last) (r .reached) (cause-few (r .last) (r .cause) i))

@@ -7,3 +7,4 @@ pub mod Verdict
 pub mod Numbered
 pub mod Derived
 pub mod Listed
+pub mod Deeper

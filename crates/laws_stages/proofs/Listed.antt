@@ -181,17 +181,17 @@ module _ {A B : Type 0} (eq : A → A → Bool) (dec : Decides eq) (f : A → Li
       go below (inr e) = ap (λ (us : List A). take 1 (keep p (collect f us))) (extend-new eq xs y ys e) ∙ with (keep p (f y)) refl below
 
 -- where no term of stage n is cyclic, the shown term is the first cyclic one among those of stage n + 1
-pub shown-first : (b : RuleSet) (n : ℕ) → ((t : Term) → List·Memᴰ t (stage b n .terms) → cyclic t ≡ false)
-    → take 1 (cyclicTerms (entries b) (stage b n)) ≡ take 1 (keep cyclic (stage b (suc n) .terms))
+pub shown-first : (d : ℕ) (b : RuleSet) (n : ℕ) → ((t : Term) → List·Memᴰ t (stage b n .terms) → cyclic d t ≡ false)
+    → take 1 (cyclicTerms d (entries b) (stage b n)) ≡ take 1 (keep (cyclic d) (stage b (suc n) .terms))
 unfolding cyclicTerms termsOf keep
-shown-first b n acyclic =
+shown-first d b n acyclic =
     sym
-    (ap (λ (ts : List Term). take 1 (keep cyclic ts)) (stage-suc-terms b n ∙ sym (collect-self (extend same (stage b n .terms) (termsOf (stage b (suc n) .facts)))))
-    ∙ first-added same same-decides (λ (t : Term). t ∷ []) cyclic (stage b n .terms) (termsOf (stage b (suc n) .facts)) (λ t m. keep-no cyclic t [] (acyclic t m))
-    ∙ ap (λ (ts : List Term). take 1 (keep cyclic ts)) (collect-self (termsOf (stage b (suc n) .facts)))
-    ∙ ap (λ (fs : List Fact). take 1 (keep cyclic (termsOf fs))) (stage-suc-facts b n)
-    ∙ first-added sameFact sameFact-decides (λ (f : Fact). f .arguments) cyclic (stage b n .facts) (outputs (entries b) (stage b n))
-    (λ f m. keep-nothing cyclic (f .arguments) (λ t k. acyclic t (arguments-in-terms b n m k))))
+    (ap (λ (ts : List Term). take 1 (keep (cyclic d) ts)) (stage-suc-terms b n ∙ sym (collect-self (extend same (stage b n .terms) (termsOf (stage b (suc n) .facts)))))
+    ∙ first-added same same-decides (λ (t : Term). t ∷ []) (cyclic d) (stage b n .terms) (termsOf (stage b (suc n) .facts)) (λ t m. keep-no (cyclic d) t [] (acyclic t m))
+    ∙ ap (λ (ts : List Term). take 1 (keep (cyclic d) ts)) (collect-self (termsOf (stage b (suc n) .facts)))
+    ∙ ap (λ (fs : List Fact). take 1 (keep (cyclic d) (termsOf fs))) (stage-suc-facts b n)
+    ∙ first-added sameFact sameFact-decides (λ (f : Fact). f .arguments) (cyclic d) (stage b n .facts) (outputs (entries b) (stage b n))
+    (λ f m. keep-nothing (cyclic d) (f .arguments) (λ t k. acyclic t (arguments-in-terms b n m k))))
   where
     map-self : (ts : List Term) → map (λ (t : Term). t) ts ≡ ts
     map-self [] = refl

@@ -89,17 +89,17 @@ some-excessive : (ts : List Term) (x y : Verdict) → Excessive x → Excessive 
 some-excessive [] x y h k = k
 some-excessive (t ∷ us) x y h k = h
 
-pub judge-excessive : (k : ℕ) (es : List Entry) (n : ℕ) (s : Stage) → Excessive (judge k es n s)
+pub judge-excessive : (d k : ℕ) (es : List Entry) (n : ℕ) (s : Stage) → Excessive (judge d k es n s)
 unfolding judge
-judge-excessive zero es n s = omega arith
-judge-excessive (suc k) es n s =
+judge-excessive d zero es n s = omega arith
+judge-excessive d (suc k) es n s =
     if-excessive (tooLarge es s) _ _ (omega arith)
     (if-excessive (tooMany es s) _ _ (omega arith)
-    (some-excessive (cyclicTerms es s) _ _ tt
+    (some-excessive (cyclicTerms d es s) _ _ tt
     (if-excessive (ltb 2048 (length (grown s (outputs es s) .facts))) _ _ (omega arith)
     (if-excessive (ltb 512 (length (grown s (outputs es s) .terms))) _ _ (omega arith)
-    (if-excessive (eqb (length (grown s (outputs es s) .facts)) (length (s .facts))) _ _ tt (judge-excessive k es (suc n) (grown s (outputs es s))))))))
+    (if-excessive (eqb (length (grown s (outputs es s) .facts)) (length (s .facts))) _ _ tt (judge-excessive d k es (suc n) (grown s (outputs es s))))))))
 
-pub verdict-excessive : (b : RuleSet) → Excessive (verdict b)
+pub verdict-excessive : (d : ℕ) (b : RuleSet) → Excessive (verdict d b)
 unfolding verdict
-verdict-excessive b = judge-excessive 2049 (entries b) 0 (stage b 0)
+verdict-excessive d b = judge-excessive d 2049 (entries b) 0 (stage b 0)

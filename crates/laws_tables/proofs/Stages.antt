@@ -124,7 +124,7 @@ module _ (b : RuleSet) (w : WellFormed b) (n : ℕ) (us : List Term) (next : (u 
       (λ (i : Invented (entries b) (stage b n .terms) (skolem f as')). invented-function b w i f as' refl) (next (skolem f as') k))
       (List·Memᴰ·append-cases (stage b n .terms) m)
 
-  pub stage-within : Reached b n → length us ≤ 1 → Within (stage b n) us
+  pub stage-within : {d : ℕ} → Reached d b n → length us ≤ 1 → Within (stage b n) us
   stage-within r l =
       record {
         terms = reached-terms-within b n r;

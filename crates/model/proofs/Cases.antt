@@ -1,4 +1,4 @@
--- The [P] table, the table of misreadings, the order of records and the forms of River, each computed from the definitions that the promises use. Assumes nothing.
+-- The [P] table, the table of misreadings, the order of records, other depths and the forms of River, each computed from the definitions that the promises use. Assumes nothing.
 use mathlib.Core.Path.{_≡_, refl}
 use mathlib.Core.List.{List, [], _∷_, _++_, map}
 use mathlib.Core.Bool.{Bool}
@@ -19,28 +19,33 @@ use Rattle.model.specs.Tables
 use Rattle.model.specs.Tables.{Checked, checked}
 use Rattle.model.specs.Text
 use Rattle.model.specs.Text.{printed}
-use Rattle.model.specs.Cases.{Case, terms₀, facts₀, expected, expectedTables, cases, riverBytes, riverForm, riverText, misreadings, ordered}
+use Rattle.model.specs.Cases.{Case, terms₀, facts₀, expected, expectedTables, cases, riverBytes, riverForm, riverText, misreadings, ordered, AtDepth, deeper}
 
 -- `checked`, with every definition that it rests on open
-run : List ℕ → Checked
-unfolding ℕ-discrete Lists.all Lists.any Lists.keep Lists.extend Lists.index Lists.collect Lists.member Lists.padded Lists.row Term.same Term.list Term.terms Term.size Term.functions Term.cyclic Rules.variablesOf Rules.inBody Rules.universal Rules.frontier Rules.existential Rules.existentialFree Rules.datalog Rules.blockable Rules.repeated Rules.detached Rules.disjunctsFrom Rules.countSkolem Rules.entriesFrom Rules.entries Rules.owns Format.andThen Format.byte Format.many Format.variable Format.atom Format.atoms Format.sound Format.rule Format.stated Format.ruleSet Format.read Triggers.sameAll Triggers.sameFact Triggers.present Triggers.termsOf Triggers.assign Triggers.instantiate Triggers.assignments Triggers.holds Triggers.triggers Triggers.headTerm Triggers.headFacts Triggers.output Blocking.rename Blocking.renamed Blocking.template Blocking.origin Blocking.made Blocking.datalogOutput Blocking.saturate Blocking.testBase Blocking.testSet Blocking.blocked Stages.critical Stages.triggersIn Stages.contribution Stages.outputs Stages.grown Stages.stage Stages.cyclicTerms Stages.sizeOf Stages.tooLarge Stages.tooMany Stages.judge Stages.verdict Tables.number Tables.termRow Tables.factRow Tables.fronted Tables.recorded Tables.left Tables.checked
-run bytes = checked bytes terms₀ facts₀
+run : ℕ → List ℕ → Checked
+unfolding ℕ-discrete Lists.all Lists.any Lists.keep Lists.extend Lists.index Lists.collect Lists.member Lists.padded Lists.row Term.same Term.list Term.terms Term.size Term.functions Term.meeting Term.nesting Term.cyclic Rules.variablesOf Rules.inBody Rules.universal Rules.frontier Rules.existential Rules.existentialFree Rules.datalog Rules.blockable Rules.repeated Rules.detached Rules.disjunctsFrom Rules.countSkolem Rules.entriesFrom Rules.entries Rules.owns Format.andThen Format.byte Format.many Format.variable Format.atom Format.atoms Format.sound Format.rule Format.stated Format.ruleSet Format.read Triggers.sameAll Triggers.sameFact Triggers.present Triggers.termsOf Triggers.assign Triggers.instantiate Triggers.assignments Triggers.holds Triggers.triggers Triggers.headTerm Triggers.headFacts Triggers.output Blocking.rename Blocking.renamed Blocking.template Blocking.origin Blocking.made Blocking.datalogOutput Blocking.saturate Blocking.testBase Blocking.testSet Blocking.blocked Stages.critical Stages.triggersIn Stages.contribution Stages.outputs Stages.grown Stages.stage Stages.cyclicTerms Stages.sizeOf Stages.tooLarge Stages.tooMany Stages.judge Stages.verdict Tables.number Tables.termRow Tables.factRow Tables.fronted Tables.recorded Tables.left Tables.isDepth Tables.checked
+run d bytes = checked d bytes terms₀ facts₀
 
 -- Rows 2 to 10, River and Lake: verdict, stage, counts, place and both tables; and the text of River.
 pub p-table :
-    (map (λ (c : Case). checked (c .bytes) terms₀ facts₀) cases ≡ map expected cases) × (printed riverBytes ≡ riverText)
+    (map (λ (c : Case). checked 1 (c .bytes) terms₀ facts₀) cases ≡ map expected cases) × (printed riverBytes ≡ riverText)
 unfolding run cases expected expectedTables riverBytes riverText Text.digits Text.decimal Text.line Text.termNumbers Text.factNumbers Text.lines Text.records Text.text Text.declared Text.textOf Text.printed
 p-table = (refl, refl)
 
 -- The books that tell the misreadings apart: verdict, stage, counts and both tables.
-pub not-misread : map (λ (c : Case). checked (c .bytes) terms₀ facts₀) misreadings ≡ map expected misreadings
+pub not-misread : map (λ (c : Case). checked 1 (c .bytes) terms₀ facts₀) misreadings ≡ map expected misreadings
 unfolding run misreadings expected expectedTables
 not-misread = refl
 
 -- The order of records: each fact and each term in its place.
-pub in-order : map (λ (c : Case). checked (c .bytes) terms₀ facts₀) ordered ≡ map expected ordered
+pub in-order : map (λ (c : Case). checked 1 (c .bytes) terms₀ facts₀) ordered ≡ map expected ordered
 unfolding run ordered expected expectedTables
 in-order = refl
+
+-- Other depths: verdict, stage, counts and both tables.
+pub at-depths : map (λ (c : AtDepth). checked (c .depth) (c .case .bytes) terms₀ facts₀) deeper ≡ map (λ (c : AtDepth). expected (c .case)) deeper
+unfolding run deeper expected expectedTables
+at-depths = refl
 
 -- which of the numbers from place p on are counted
 pub countedFrom : List ℕ → ℕ → List ℕ → List Bool

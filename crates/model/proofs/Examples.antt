@@ -35,9 +35,9 @@ spelled c = spelledFacts (river .arities) (λ j. star) 2 5 (c .terms) (c .facts)
 -- River's accepted list, as a stage and as its tables spell it; k of each fact of it; and the bound for two constants.
 pub river-bound :
     (stage river 2 .facts ≡ riverListed)
-    × (spelled (checked riverBytes terms₀ facts₀) ≡ riverListed)
+    × (spelled (checked 1 riverBytes terms₀ facts₀) ≡ riverListed)
     × (map (λ (f : Fact). starsOf (f .arguments)) riverListed ≡ 1 ∷ 2 ∷ 1 ∷ 2 ∷ 1 ∷ [])
     × (bound 2 riverListed ≡ 14)
     × (map (λ (x : Filling). constants (x .instance')) workedFillings ≡ 2 ∷ 1 ∷ 1 ∷ 2 ∷ [])
-unfolding ℕ-discrete Lists.all Lists.any Lists.keep Lists.extend Lists.index Lists.collect Lists.member Lists.padded Lists.row Term.same Term.list Term.terms Term.size Term.functions Term.cyclic Term.stars Rules.variablesOf Rules.inBody Rules.universal Rules.frontier Rules.existential Rules.existentialFree Rules.datalog Rules.blockable Rules.repeated Rules.detached Rules.disjunctsFrom Rules.countSkolem Rules.entriesFrom Rules.entries Rules.owns Format.andThen Format.byte Format.many Format.variable Format.atom Format.atoms Format.sound Format.rule Format.stated Format.ruleSet Format.read Triggers.sameAll Triggers.sameFact Triggers.present Triggers.termsOf Triggers.assign Triggers.instantiate Triggers.assignments Triggers.holds Triggers.triggers Triggers.headTerm Triggers.headFacts Triggers.output Blocking.rename Blocking.renamed Blocking.template Blocking.origin Blocking.made Blocking.datalogOutput Blocking.saturate Blocking.testBase Blocking.testSet Blocking.blocked Stages.critical Stages.triggersIn Stages.contribution Stages.outputs Stages.grown Stages.stage Stages.cyclicTerms Stages.sizeOf Stages.tooLarge Stages.tooMany Stages.judge Stages.verdict Tables.number Tables.termRow Tables.factRow Tables.fronted Tables.recorded Tables.left Tables.checked Spelled.termAt Spelled.factAt Spelled.spelledFacts Demand.starsOf Demand.constants Demand.bound riverBytes river riverListed workedFillings
+unfolding ℕ-discrete Lists.all Lists.any Lists.keep Lists.extend Lists.index Lists.collect Lists.member Lists.padded Lists.row Term.same Term.list Term.terms Term.size Term.functions Term.meeting Term.nesting Term.cyclic Term.stars Rules.variablesOf Rules.inBody Rules.universal Rules.frontier Rules.existential Rules.existentialFree Rules.datalog Rules.blockable Rules.repeated Rules.detached Rules.disjunctsFrom Rules.countSkolem Rules.entriesFrom Rules.entries Rules.owns Format.andThen Format.byte Format.many Format.variable Format.atom Format.atoms Format.sound Format.rule Format.stated Format.ruleSet Format.read Triggers.sameAll Triggers.sameFact Triggers.present Triggers.termsOf Triggers.assign Triggers.instantiate Triggers.assignments Triggers.holds Triggers.triggers Triggers.headTerm Triggers.headFacts Triggers.output Blocking.rename Blocking.renamed Blocking.template Blocking.origin Blocking.made Blocking.datalogOutput Blocking.saturate Blocking.testBase Blocking.testSet Blocking.blocked Stages.critical Stages.triggersIn Stages.contribution Stages.outputs Stages.grown Stages.stage Stages.cyclicTerms Stages.sizeOf Stages.tooLarge Stages.tooMany Stages.judge Stages.verdict Tables.number Tables.termRow Tables.factRow Tables.fronted Tables.recorded Tables.left Tables.isDepth Tables.checked Spelled.termAt Spelled.factAt Spelled.spelledFacts Demand.starsOf Demand.constants Demand.bound riverBytes river riverListed workedFillings
 river-bound = (refl, refl, refl, refl, refl)

@@ -42,18 +42,18 @@ pub record Over (b : RuleSet) (f : Fact) : Type 0 where
   pub arity : length (f .arguments) ≡ getD (b .arities) (f .predicate) 0
   pub constant : Constants (f .arguments)
 
--- what is claimed of a state that a filling reached
-pub record Bounded (listed : List Fact) (instance' : List Fact) (s : State) : Type 0 where
-  pub acyclic : (f : Fact) → List·Memᴰ f (s .facts) → any cyclic (f .arguments) ≡ false
+-- what is claimed of a state that a filling reached, at depth d
+pub record Bounded (d : ℕ) (listed : List Fact) (instance' : List Fact) (s : State) : Type 0 where
+  pub acyclic : (f : Fact) → List·Memᴰ f (s .facts) → any (cyclic d) (f .arguments) ≡ false
   pub covered : (f : Fact) → List·Memᴰ f (s .facts) → List·Memᴰ (starredFact f) listed
   pub steps : s .steps ≤ bound (constants instance') listed
 
-abbrev pub Demand3 : RuleSet → List Fact → Type 0
-Demand3 b listed =
+abbrev pub Demand3 : ℕ → RuleSet → List Fact → Type 0
+Demand3 d b listed =
     (instance' : List Fact) → ((f : Fact) → List·Memᴰ f instance' → Over b f) → (attempts : List Attempt)
-    → Bounded listed instance' (chase b attempts (initial instance'))
+    → Bounded d listed instance' (chase b attempts (initial instance'))
 
 abbrev pub Demand3OfCheck : Type 0
 Demand3OfCheck =
-    (bytes terms₀ facts₀ : List ℕ) (b : RuleSet) (i n f t : ℕ) → read bytes ≡ good b i → checked bytes terms₀ facts₀ .verdict ≡ accepted n f t
-    → Demand3 b (spelledFacts (b .arities) (λ j. star) t f (checked bytes terms₀ facts₀ .terms) (checked bytes terms₀ facts₀ .facts) 0)
+    (d : ℕ) (bytes terms₀ facts₀ : List ℕ) (b : RuleSet) (i n f t : ℕ) → read bytes ≡ good b i → checked d bytes terms₀ facts₀ .verdict ≡ accepted n f t
+    → Demand3 d b (spelledFacts (b .arities) (λ j. star) t f (checked d bytes terms₀ facts₀ .terms) (checked d bytes terms₀ facts₀ .facts) 0)

@@ -46,3 +46,10 @@ termsFront = 5130
 
 abbrev pub factsFront : ℕ
 factsFront = 10240
+
+-- the depths at which a rule set is checked (document 02, C-14): 1 up to 3, and the program's
+abbrev pub depthLimit : ℕ
+depthLimit = 3
+
+abbrev pub programDepth : ℕ
+programDepth = 1

@@ -2,12 +2,27 @@
 -- and nothing of the two is used here. Assumes nothing.
 use mathlib.Core.Path.{_≡_}
 use mathlib.Core.List.{List, [], map, List·Memᴰ}
-use mathlib.Core.Bool.{true, false}
+use mathlib.Core.Bool.{Bool, true, false, _||_}
 use Prim.Native.Nat.{ℕ, _<_}
 use lib.ListN.{length, getD, replicate}
-use Rattle.model.specs.Term.{Position, root, child, Term, Terms, star, apart, fresh, skolem, list, functions}
+use Rattle.model.specs.Lists.{member}
+use Rattle.model.specs.Term.{Position, root, child, Term, Terms, star, constant, apart, fresh, skolem, none, more, list, functions, functionsAll}
 use Rattle.model.specs.Rules.{Atom, Rule, RuleSet, Disjunct, Entry, entries, inBody, universal, frontier, datalog, owns}
 use Rattle.model.specs.Triggers.{Fact, assign, instantiate, headFacts, output}
+
+-- a cyclic term: some Skolem function stands properly inside a subterm that it heads (001, section 2). `Term` has the notion of every depth,
+-- of which this is depth 1
+unfoldable mutual
+  pub repeats : Term → Bool
+  repeats star = false
+  repeats (constant c) = false
+  repeats (apart p) = false
+  repeats (fresh t v) = false
+  repeats (skolem f ts) = member f (functionsAll ts) || repeatsAny ts
+
+  pub repeatsAny : Terms → Bool
+  repeatsAny none = false
+  repeatsAny (more t ts) = repeats t || repeatsAny ts
 
 -- a substitution of a rule: a term for each variable of its body
 abbrev pub Substitution : Rule → List Term → Type 0

@@ -1,10 +1,10 @@
 -- What the check leaves in the caller's two tables (document 01, "Lent lists"). Assumes nothing.
 use mathlib.Core.List.{List, [], _∷_, _++_, map}
-use mathlib.Core.Bool.{true, false, _&&_}
+use mathlib.Core.Bool.{Bool, true, false, _&&_}
 use Prim.Native.Nat.{ℕ, _-_}
 use lib.Dec.{leb}
 use lib.ListN.{length, take, drop, replicate}
-use Rattle.model.specs.Limits.{termWidth, termsFront, factsFront}
+use Rattle.model.specs.Limits.{termWidth, termsFront, factsFront, depthLimit}
 use Rattle.model.specs.Lists.{collect, index, padded}
 use Rattle.model.specs.Term.{Term, star, constant, apart, fresh, skolem, list, same}
 use Rattle.model.specs.Rules.{RuleSet, entries}
@@ -46,21 +46,30 @@ recorded v s us terms₀ facts₀ =
       facts = fronted factsFront (collect (factRow (s .terms)) (s .facts)) facts₀;
     }
 
--- accepted: that stage. Cyclic: the last stage made, and after its terms the first cyclic term of the next. Refused: zeros
-unfoldable pub left : RuleSet → Verdict → List ℕ → List ℕ → Checked
-left b (accepted n f t) terms₀ facts₀ = recorded (accepted n f t) (stage b n) [] terms₀ facts₀
-left b (cyclicAt n f t) terms₀ facts₀ =
-    let s : Stage = stage b (n - 1) in recorded (cyclicAt n f t) s (take 1 (cyclicTerms (entries b) s)) terms₀ facts₀
-left b (refused n p) terms₀ facts₀ = record { verdict = refused n p; terms = fronted termsFront [] terms₀; facts = fronted factsFront [] facts₀ }
+-- accepted: that stage. Cyclic: the last stage made, and after its terms the first of the next that is cyclic at depth d. Refused: zeros
+unfoldable pub left : ℕ → RuleSet → Verdict → List ℕ → List ℕ → Checked
+left d b (accepted n f t) terms₀ facts₀ = recorded (accepted n f t) (stage b n) [] terms₀ facts₀
+left d b (cyclicAt n f t) terms₀ facts₀ =
+    let s : Stage = stage b (n - 1) in recorded (cyclicAt n f t) s (take 1 (cyclicTerms d (entries b) s)) terms₀ facts₀
+left d b (refused n p) terms₀ facts₀ = record { verdict = refused n p; terms = fronted termsFront [] terms₀; facts = fronted factsFront [] facts₀ }
 
--- everything that `check` answers and leaves behind: refusal 1 first, and 1 to 10 change nothing
-unfoldable pub checked : List ℕ → List ℕ → List ℕ → Checked
-checked bytes terms₀ facts₀ =
+-- a depth is 1, 2 or 3 (document 02, C-14)
+unfoldable pub isDepth : ℕ → Bool
+isDepth d = leb 1 d && leb d depthLimit
+
+-- everything that `check` answers and leaves behind: refusal 1 first, 18 for a number that is no depth, then those of reading. All these change
+-- nothing
+unfoldable pub checked : ℕ → List ℕ → List ℕ → List ℕ → Checked
+checked d bytes terms₀ facts₀ =
     elim (leb termsFront (length terms₀) && leb factsFront (length facts₀)) [
       | false ↦ record { verdict = refused 1 0; terms = terms₀; facts = facts₀ }
       | true ↦
-          elim (read bytes) [
-            | bad n p ↦ record { verdict = refused n p; terms = terms₀; facts = facts₀ }
-            | good b i ↦ left b (verdict b) terms₀ facts₀
+          elim (isDepth d) [
+            | false ↦ record { verdict = refused 18 0; terms = terms₀; facts = facts₀ }
+            | true ↦
+                elim (read bytes) [
+                  | bad n p ↦ record { verdict = refused n p; terms = terms₀; facts = facts₀ }
+                  | good b i ↦ left d b (verdict d b) terms₀ facts₀
+                ]
           ]
     ]

@@ -1,10 +1,11 @@
 -- Terms of every kind that the definitions speak of, in one type, so that triggers and outputs are defined once (001, section 2).
 -- Assumes nothing.
 use mathlib.Core.List.{List, [], _∷_, _++_}
-use mathlib.Core.Bool.{Bool, true, false, _||_}
-use Prim.Native.Nat.{ℕ, _+_}
+use mathlib.Core.Bool.{Bool, true, false}
+use Prim.Native.Nat.{ℕ, suc, max, _+_}
 use native.Mathlib.Decide.{ℕ-discrete}
-use Rattle.model.specs.Lists.{member}
+use lib.Dec.{eqb, ltb}
+use Rattle.model.specs.Lists.{any}
 
 -- an occurrence in a trigger: a variable, and a way down its term by argument numbers
 pub data Position : Type 0 where
@@ -68,18 +69,26 @@ unfoldable mutual
   functionsAll none = []
   functionsAll (more t ts) = functions t ++ functionsAll ts
 
--- some Skolem function stands properly inside a subterm that it heads (001, section 2)
-unfoldable mutual
-  pub cyclic : Term → Bool
-  cyclic star = false
-  cyclic (constant c) = false
-  cyclic (apart p) = false
-  cyclic (fresh t v) = false
-  cyclic (skolem f ts) = member f (functionsAll ts) || cyclicAny ts
+-- a count, one more where function g is f
+unfoldable pub meeting : ℕ → ℕ → ℕ → ℕ
+meeting f g n = elim (eqb f g) [ true ↦ suc n | false ↦ n ]
 
-  pub cyclicAny : Terms → Bool
-  cyclicAny none = false
-  cyclicAny (more t ts) = cyclic t || cyclicAny ts
+-- how often a Skolem function stands on one way from the root to a leaf, at most (document 02, C-14)
+unfoldable mutual
+  pub nesting : ℕ → Term → ℕ
+  nesting f star = 0
+  nesting f (constant c) = 0
+  nesting f (apart p) = 0
+  nesting f (fresh t v) = 0
+  nesting f (skolem g ts) = meeting f g (nestingAny f ts)
+
+  pub nestingAny : ℕ → Terms → ℕ
+  nestingAny f none = 0
+  nestingAny f (more t ts) = max (nesting f t) (nestingAny f ts)
+
+-- cyclic at depth d: one way from the root to a leaf meets some Skolem function more than d times (document 02, C-14)
+unfoldable pub cyclic : ℕ → Term → Bool
+cyclic d t = any (λ (f : ℕ). ltb d (nesting f t)) (functions t)
 
 -- ⋆ for each constant
 unfoldable mutual

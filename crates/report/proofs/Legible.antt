@@ -19,7 +19,7 @@ use Rattle.laws_tables.proofs.Terms.{Recordable, plain, marked, recordable-mem,
 use Rattle.laws_tables.proofs.Facts.{length-factRow}
 use Rattle.laws_tables.proofs.Recorded.{Recorded, terms-begin, facts-begin}
 use Rattle.laws_tables.proofs.Fronts.{Within}
-use Rattle.laws_tables.proofs.Courses.{Course, short, faulty, judged, course, left-verdict}
+use Rattle.laws_tables.proofs.Courses.{Course, short, shallow, faulty, judged, course, left-verdict}
 use Rattle.laws_tables.proofs.Spelled.{Held, accepted-held, cyclicAt-held}
 use Rattle.dmfa.specs.declared.verdict.Verdict.{Verdict}
 use Rattle.dmfa.specs.declared.verdict.Verdict.the-variants.{Accepted, Cyclic, Refused}
@@ -76,29 +76,29 @@ module _ {arities : List ℕ} {s : stages.Stage} {us : List Term} (h : Recorded 
             rw (row-predicate i m, g (getD (s .facts) i none .predicate), ← f .arity) (f .few);
       }
 
-module _ {b : RuleSet} {v : stages.Verdict} {n f t : ℕ} {more : List Term} (h : Held b v n f t more) (terms₀ facts₀ : List ℕ) where
-  held-terms : LegibleTerms (left b v terms₀ facts₀ .terms) (t + length more)
+module _ {depth : ℕ} {b : RuleSet} {v : stages.Verdict} {n f t : ℕ} {more : List Term} (h : Held depth b v n f t more) (terms₀ facts₀ : List ℕ) where
+  held-terms : LegibleTerms (left depth b v terms₀ facts₀ .terms) (t + length more)
   held-terms =
       rw (h .tables terms₀ facts₀, h .terms, ← length-append (stages.stage b n .terms) more) (recorded-terms (h .records) (h .within) v terms₀ facts₀)
 
-  held-facts : (as′ : List ℕ) → 64 ≤ length as′ → ((p : ℕ) → getD as′ p 0 ≡ getD (b .arities) p 0) → LegibleFacts as′ (left b v terms₀ facts₀ .facts) f
+  held-facts : (as′ : List ℕ) → 64 ≤ length as′ → ((p : ℕ) → getD as′ p 0 ≡ getD (b .arities) p 0) → LegibleFacts as′ (left depth b v terms₀ facts₀ .facts) f
   held-facts as′ r g = rw (h .tables terms₀ facts₀, h .facts) (recorded-facts (h .records) (h .within) v terms₀ facts₀ as′ r g)
 
 -- the tables of a rule set that was judged, by its verdict
-left-legible : (b : RuleSet) → WellFormed b → (terms₀ facts₀ as′ : List ℕ) → 64 ≤ length as′ → ((p : ℕ) → getD as′ p 0 ≡ getD (b .arities) p 0)
-    → (v : Verdict) → stages.verdict b ≡ meant v → Legible as′ v (left b (meant v) terms₀ facts₀ .terms) (left b (meant v) terms₀ facts₀ .facts)
-left-legible b w terms₀ facts₀ as′ r g (Accepted n f t) e =
-    let h = accepted-held b w e in (fewer-terms (held-terms h terms₀ facts₀) t (omega arith), held-facts h terms₀ facts₀ as′ r g)
-left-legible b w terms₀ facts₀ as′ r g (Cyclic n f t) e =
-    let h = cyclicAt-held b w e in (fewer-terms (held-terms h terms₀ facts₀) (suc t) (omega arith), held-facts h terms₀ facts₀ as′ r g)
-left-legible b w terms₀ facts₀ as′ r g (Refused n p) e = tt
+left-legible : (depth : ℕ) (b : RuleSet) → WellFormed b → (terms₀ facts₀ as′ : List ℕ) → 64 ≤ length as′ → ((p : ℕ) → getD as′ p 0 ≡ getD (b .arities) p 0)
+    → (v : Verdict) → stages.verdict depth b ≡ meant v → Legible as′ v (left depth b (meant v) terms₀ facts₀ .terms) (left depth b (meant v) terms₀ facts₀ .facts)
+left-legible depth b w terms₀ facts₀ as′ r g (Accepted n f t) e =
+    let h = accepted-held depth b w e in (fewer-terms (held-terms h terms₀ facts₀) t (omega arith), held-facts h terms₀ facts₀ as′ r g)
+left-legible depth b w terms₀ facts₀ as′ r g (Cyclic n f t) e =
+    let h = cyclicAt-held depth b w e in (fewer-terms (held-terms h terms₀ facts₀) (suc t) (omega arith), held-facts h terms₀ facts₀ as′ r g)
+left-legible depth b w terms₀ facts₀ as′ r g (Refused n p) e = tt
 
-pub checked-legible : (bytes terms₀ facts₀ as′ : List ℕ) → Declares bytes as′ → (v : Verdict) → checked bytes terms₀ facts₀ .verdict ≡ meant v
-    → Legible as′ v (checked bytes terms₀ facts₀ .terms) (checked bytes terms₀ facts₀ .facts)
-checked-legible bytes terms₀ facts₀ as′ d v e = go (course bytes terms₀ facts₀)
+pub checked-legible : (depth : ℕ) (bytes terms₀ facts₀ as′ : List ℕ) → Declares bytes as′ → (v : Verdict) → checked depth bytes terms₀ facts₀ .verdict ≡ meant v
+    → Legible as′ v (checked depth bytes terms₀ facts₀ .terms) (checked depth bytes terms₀ facts₀ .facts)
+checked-legible depth bytes terms₀ facts₀ as′ d v e = go (course depth bytes terms₀ facts₀)
   where
     c : Checked
-    c = checked bytes terms₀ facts₀
+    c = checked depth bytes terms₀ facts₀
 
     -- a refusal shows no rows
     refusal : (v : Verdict) (n p : ℕ) → stages.refused n p ≡ meant v → Legible as′ v (c .terms) (c .facts)
@@ -106,10 +106,11 @@ checked-legible bytes terms₀ facts₀ as′ d v e = go (course bytes terms₀ 
     refusal (Cyclic m f t) n p q = let z : _≡_ {A = ℕ} 0 1 = cc in absurd (omega arith)
     refusal (Refused m q′) n p q = tt
 
-    go : Course bytes terms₀ facts₀ → Legible as′ v (c .terms) (c .facts)
+    go : Course depth bytes terms₀ facts₀ → Legible as′ v (c .terms) (c .facts)
     go (short h q) = refusal v 1 0 (sym (ap (λ (x : Checked). x .verdict) q) ∙ e)
-    go (faulty n p i j h r q) = refusal v n p (sym (ap (λ (x : Checked). x .verdict) q) ∙ e)
-    go (judged b i h r q) =
-        let u : stages.verdict b ≡ meant v = sym (left-verdict b (stages.verdict b) terms₀ facts₀) ∙ sym (ap (λ (x : Checked). x .verdict) q) ∙ e in
-        subst (λ (x : Checked). Legible as′ v (x .terms) (x .facts)) (sym (q ∙ ap (λ (x : stages.Verdict). left b x terms₀ facts₀) u))
-        (left-legible b (read-well-formed bytes b i r) terms₀ facts₀ as′ (d .room) (d .same b i r) v u)
+    go (shallow h a q) = refusal v 18 0 (sym (ap (λ (x : Checked). x .verdict) q) ∙ e)
+    go (faulty n p i j h a r q) = refusal v n p (sym (ap (λ (x : Checked). x .verdict) q) ∙ e)
+    go (judged b i h a r q) =
+        let u : stages.verdict depth b ≡ meant v = sym (left-verdict depth b (stages.verdict depth b) terms₀ facts₀) ∙ sym (ap (λ (x : Checked). x .verdict) q) ∙ e in
+        subst (λ (x : Checked). Legible as′ v (x .terms) (x .facts)) (sym (q ∙ ap (λ (x : stages.Verdict). left depth b x terms₀ facts₀) u))
+        (left-legible depth b (read-well-formed bytes b i r) terms₀ facts₀ as′ (d .room) (d .same b i r) v u)

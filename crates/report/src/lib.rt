@@ -34,9 +34,16 @@ fn write_answer(
     text::write_text(verdict, &form[first..LENGTH], terms, facts, &mut *out)
 }
 
-// Runs the check, and leaves the text of its answer in the front of `out`: answers how many bytes, or refusal 1 for a list too short.
-pub fn print(bytes: &[u8], terms: &mut [u16], facts: &mut [u16], out: &mut [u8]) -> Transfer
-    ensures { λ r. ⌜ Prints (now (bytes .entry)) (now (terms .entry)) (now (facts .entry)) (now (out .entry)) r (now (terms .exit)) (now (facts .exit)) (now (out .exit)) ⌝ }
+// Runs the check at a depth, and leaves the text of its answer in the front of `out`: answers how many bytes, or refusal 1 for a list too short,
+// or 18 for a number that is no depth.
+pub fn print(
+    bytes: &[u8],
+    depth: usize,
+    terms: &mut [u16],
+    facts: &mut [u16],
+    out: &mut [u8],
+) -> Transfer
+    ensures { λ r. ⌜ Prints depth (now (bytes .entry)) (now (terms .entry)) (now (facts .entry)) (now (out .entry)) r (now (terms .exit)) (now (facts .exit)) (now (out .exit)) ⌝ }
 {
     if terms.len() < TERMS_FRONT {
         return Transfer::Refusal(1, 0);
@@ -47,7 +54,10 @@ pub fn print(bytes: &[u8], terms: &mut [u16], facts: &mut [u16], out: &mut [u8])
     if out.len() < TEXT_ROOM {
         return Transfer::Refusal(1, 0);
     }
-    let verdict = dmfa::check(bytes, &mut *terms, &mut *facts);
+    if !dmfa::is_depth(depth) {
+        return Transfer::Refusal(18, 0);
+    }
+    let verdict = dmfa::check(bytes, depth, &mut *terms, &mut *facts);
     let length = write_answer(bytes, verdict, &*terms, &*facts, &mut *out);
     Transfer::Done(length)
 }

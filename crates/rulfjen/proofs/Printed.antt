@@ -6,7 +6,7 @@ use native.Mathlib.Omega.{arith}
 use lib.ListN.{length, take, replicate, length-take}
 use lib.Seq.{take-all}
 use Rattle.model.specs.Form as form
-use Rattle.model.specs.Limits.{inputLimit, termsFront, factsFront}
+use Rattle.model.specs.Limits.{inputLimit, termsFront, factsFront, programDepth}
 use Rattle.model.specs.Text.{printed}
 use Rattle.reader.specs.Transfer.{transferOf}
 use Rattle.reader.specs.declared.Transfer.{Transfer}
@@ -15,11 +15,11 @@ use Rattle.report.specs.Printing.{textRoom, Prints}
 use Rattle.report.proofs.Printing.{program-prints}
 
 module _ (input out : List ℕ) (few : length input ≤ inputLimit) (room : textRoom ≤ length out) (r : Transfer) {terms facts left : List ℕ}
-    (p : Prints input (replicate termsFront 0) (replicate factsFront 0) out r terms facts left) where
+    (p : Prints programDepth input (replicate termsFront 0) (replicate factsFront 0) out r terms facts left) where
   told : (transferOf r ≡ form.done (length (printed input))) × (take (length (printed input)) left ≡ printed input)
   told =
       program-prints input out room r
-      (subst (λ (bs : List ℕ). Prints bs (replicate termsFront 0) (replicate factsFront 0) out r terms facts left) (sym (take-all inputLimit input few)) p)
+      (subst (λ (bs : List ℕ). Prints programDepth bs (replicate termsFront 0) (replicate factsFront 0) out r terms facts left) (sym (take-all inputLimit input few)) p)
 
   pub text-is : (n : ℕ) → r ≡ Done n → (n ≡ length (printed input)) × (take n left ≡ printed input)
   text-is n e =

@@ -13,6 +13,9 @@ ghost use Rattle.report.specs.Printing.{textRoom};
 // One byte more than the longest rule set has (model's `inputLimit`).
 const INPUT_LIMIT: usize = 6856;
 
+// The program's depth (model's `programDepth`).
+const DEPTH: usize = 1;
+
 // The text for an input, in the front of `out`, and how many bytes it has.
 fn text(input: &[u8], out: &mut [u8]) -> usize
     requires { ⌜ (length (now input) ≤ inputLimit) × (textRoom ≤ length (now out)) ⌝ }
@@ -20,10 +23,10 @@ fn text(input: &[u8], out: &mut [u8]) -> usize
 {
     let mut terms = [0u16; TERMS_FRONT];
     let mut facts = [0u16; FACTS_FRONT];
-    let answer = report::print(input, &mut terms, &mut facts, &mut *out);
+    let answer = report::print(input, DEPTH, &mut terms, &mut facts, &mut *out);
     match answer {
         Transfer::Done(count) => count,
-        // never: no list is short
+        // never: no list is short, and 1 is a depth
         Transfer::Refusal(_, _) => 0,
     }
 }

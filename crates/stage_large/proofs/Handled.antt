@@ -19,10 +19,10 @@ use Rattle.stage_large.specs.Stage.{Tabled, tables}
 use Rattle.stage_large.proofs.Sizes.{arity-few}
 use Rattle.stage_output.proofs.Entering.{rows-taken}
 
-pub handled-is : (form terms : List ℕ) (n : ℕ) (facts : List ℕ) (m : ℕ) → Tabled form terms n facts m → (old : ℕ) → old ≤ m → (i : ℕ) → i < length (rulesOf form) → (ms : List ℕ)
-    → holdsRow (bodyOf (ruleOf form i .body)) facts old (spread (ruleOf form i) ms) ≡ handled (record { rows = tables terms n facts m; old = old }) (ruleOf form i) ms
+pub handled-is : (form terms : List ℕ) (n : ℕ) (facts : List ℕ) (m : ℕ) → Tabled form terms n facts m → (old depth : ℕ) → old ≤ m → (i : ℕ) → i < length (rulesOf form) → (ms : List ℕ)
+    → holdsRow (bodyOf (ruleOf form i .body)) facts old (spread (ruleOf form i) ms) ≡ handled (record { rows = tables terms n facts m; old = old; depth = depth }) (ruleOf form i) ms
 unfolding handled tables holdsAt
-handled-is form terms n facts m h old l i k ms =
+handled-is form terms n facts m h old depth l i k ms =
     let r = ruleOf form i in
     holds-is (aritiesOf form) (arity-few form (h .held)) r (rule-well-formed form (h .held) i k) (bodyOf (r .body)) (encodes (r .body)) facts old
     (let a = h .room in omega arith) (λ j p a b c. h .padded j p (omega arith) b c) ms

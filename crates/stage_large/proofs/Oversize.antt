@@ -39,7 +39,7 @@ any-kept p q (x ∷ xs) h = go (any-kept p q xs (λ y m. h y (List·Memᴰ·tail
     go below fails (inl e) = ap (any p) (keep-yes q x xs e) ∙ ap (λ (b : Bool). p x || b) below
     go below fails (inr e) = ap (any p) (keep-no q x xs e) ∙ below ∙ ap (λ (b : Bool). b || any p xs) (sym (fails e))
 
-module _ (form terms : List ℕ) (n : ℕ) (facts : List ℕ) (m old : ℕ) (h : Tabled form terms n facts m) (t : HandledSmall form (stageOf terms n facts m old)) (i : ℕ)
+module _ (form terms : List ℕ) (n : ℕ) (facts : List ℕ) (m old depth : ℕ) (h : Tabled form terms n facts m) (t : HandledSmall form (stageOf terms n facts m old depth)) (i : ℕ)
     (l : i < length (rulesOf form)) where
   abbrev r : Rule
   r = ruleOf form i
@@ -57,7 +57,7 @@ module _ (form terms : List ℕ) (n : ℕ) (facts : List ℕ) (m old : ℕ) (h :
       ap (large terms (setOf (universal r))) p
       ∙ large-is form terms n facts m h r j
       ∙ t .small i l b ms (rw (rows-length 10 n terms) j)
-      (sym (handled-is form terms n facts m h old earlier i l ms) ∙ subst (λ (ys : List ℕ). holdsRow (bodyOf (r .body)) facts old ys ≡ true) p e)
+      (sym (handled-is form terms n facts m h old depth earlier i l ms) ∙ subst (λ (ys : List ℕ). holdsRow (bodyOf (r .body)) facts old ys ≡ true) p e)
 
   unhandled-large : blockable r ≡ true → any (large terms (setOf (universal r))) (unhandledFrom (bodyOf (r .body)) facts m old n (replicate 8 0))
       ≡ any (largeOver (tables terms n facts m)) (triggersAt r (length (tables terms n facts m .terms)) (tables terms n facts m .facts))

@@ -3,26 +3,30 @@ use mathlib.Core.Path.{_≡_, refl, sym, ap, _∙_, subst}
 use mathlib.Core.Bool.{Bool, true, false, _||_}
 use mathlib.Core.Logic.{_⊎_, inl, inr}
 use mathlib.Core.List.{List, [], _∷_, _++_, append-nil, List·Memᴰ}
-use Prim.Native.Nat.{ℕ, _+_, _≤_, _<_}
+use Prim.Native.Nat.{ℕ, suc, _+_, _≤_, _<_}
 use native.Mathlib.Numerals.{add-one}
 use native.Mathlib.Omega.{arith}
+use lib.Dec.{ltb}
 use lib.ListN.{length, getD, set}
 use lib.Seq.{getD-set-other}
 use borrow.Author.Tests.{eq-eqb, ne-eqb}
 use Rattle.model.specs.Lists.{any, collect, numbersFrom}
 use Rattle.laws.proofs.Bools.{case}
-use Rattle.laws.proofs.Lists.{collect-append, any-agree}
+use Rattle.laws.proofs.Lists.{collect-append}
 use Rattle.laws.proofs.Places.{numbersFrom-more}
 use Rattle.tables.specs.Rows.{rows}
-use Rattle.tables.specs.Terms.{argumentOf, argumentsOf, Ordered, occursAt, marked, occursMarked}
-use Rattle.tables.proofs.Terms.{argumentsOf-mem, occurs-more, occurs-none}
+use Rattle.tables.specs.Terms.{argumentOf, argumentsOf, Ordered, nestingAt}
+use Rattle.tables.specs.Marks.{raised, passes, nestsMarked}
+use Rattle.tables.proofs.Terms.{argumentsOf-mem, most-agree}
+use Rattle.tables.proofs.Marks.{passes-one, passes-most, nests-more, nests-none}
 use Rattle.tables.proofs.Tables.{rows-length}
 use Rattle.rows.specs.Copies.{argumentsIn}
 use Rattle.tables.proofs.Cells.{numbersFrom-take}
-use Rattle.rows.specs.Making.{Ground, occursIn, cyclicRow, firstCyclic}
-use Rattle.stage_output.specs.Cyclic.{Arguments, groundIn, rowWith, rowsWith, cyclicOf, Unchanging}
-use Rattle.stage_output.proofs.Flat.{occursIn-is}
+use Rattle.rows.specs.Making.{Ground as Told, most, nestingIn, cyclicRow, firstCyclic}
+use Rattle.stage_output.specs.Cyclic.{Arguments, groundIn, Standable, rowWith, rowsWith, cyclicOf, Unchanging}
+use Rattle.stage_output.proofs.Flat.{nestingIn-is}
 use Rattle.stage_output.specs.declared.cyclic.Cyclic.{Cyclic}
+use Rattle.stage_output.specs.declared.cyclic.Ground.{Ground}
 
 -- the first terms of a table by themselves
 pub ordered-front : {n : ℕ} {t : List ℕ} (k : ℕ) → k ≤ n → Ordered n t → Ordered k t
@@ -38,17 +42,23 @@ arguments-first : (row : List ℕ) → length row ≡ 10 → getD row 1 0 ≤ 8 
 unfolding argumentsIn argumentsOf
 arguments-first row long h = sym (numbersFrom-take row 2 (getD row 1 0) (omega arith))
 
--- a row is cyclic if its function stands in a marked term, when its arguments are marked and nothing else, of the first k, which they are among
-pub cyclic-marked : {n k : ℕ} {t row : List ℕ} → Ordered n t → k ≤ n → length row ≡ 10 → Arguments k row
-    → (marks : List Bool) → k ≤ length marks → ((a : ℕ) → a < k → getD marks a false ≡ false)
-    → cyclicRow (groundIn n t) row ≡ occursMarked t (getD row 0 0) k (marked (argumentsOf row 0) marks)
+-- a row is cyclic where its function stands too often on a way through a marked term, when its arguments are marked once and nothing else, of
+-- the first k, which they are among
+pub cyclic-marked : {g : Ground} {k : ℕ} {t row : List ℕ} → Standable g t → k ≤ g .terms → length row ≡ 10 → Arguments k row
+    → (marks : List ℕ) → k ≤ length marks → ((a : ℕ) → a < k → getD marks a 0 ≡ 0)
+    → cyclicRow (groundIn g t) row ≡ nestsMarked t (getD row 0 0) (g .depth) k (raised (argumentsOf row 0) 1 marks)
 unfolding cyclicRow
-cyclic-marked {n} {k} {t} {row} o few long h marks room none =
-    ap (any (occursIn (length (rows 10 n t)) (rows 10 n t) f)) (arguments-first row long (h .few))
-    ∙ any-agree (occursIn (length (rows 10 n t)) (rows 10 n t) f) (occursAt t f) (argumentsOf row 0)
-    (λ a m. let l = below a m in occursIn-is o (length (rows 10 n t)) f a (omega arith) (omega (arith, rows-length 10 n t)))
-    ∙ sym (occurs-more t f k (argumentsOf row 0) marks below room ∙ ap (λ (b : Bool). b || any (occursAt t f) (argumentsOf row 0)) (occurs-none t f k marks none))
+cyclic-marked {g} {k} {t} {row} s few long h marks room none =
+    ap (λ (as' : List ℕ). ltb (g .depth) (suc (most (nestingIn (length table) table f) as'))) (arguments-first row long (h .few))
+    ∙ ap (λ (n : ℕ). ltb (g .depth) (suc n)) (most-agree (nestingIn (length table) table f) (nestingAt t f) (argumentsOf row 0)
+    (λ a m. let l = below a m in nestingIn-is (s .ordered) (length table) f a (omega arith) (omega (arith, rows-length 10 (g .terms) t))))
+    ∙ sym (passes-one (g .depth) (most (nestingAt t f) (argumentsOf row 0)) (s .deep))
+    ∙ passes-most (g .depth) 1 (nestingAt t f) (argumentsOf row 0)
+    ∙ sym (nests-more t f (g .depth) k (argumentsOf row 0) 1 marks below room ∙ ap (λ (b : Bool). b || any (λ (a : ℕ). passes (g .depth) 1 (nestingAt t f a)) (argumentsOf row 0)) (nests-none t f (g .depth) k marks none))
   where
+    table : List (List ℕ)
+    table = rows 10 (g .terms) t
+
     f : ℕ
     f = getD row 0 0
 
@@ -67,7 +77,7 @@ arguments-set {n} {template} f h =
 
 -- the first cyclic row
 
-module _ (g : Ground) where
+module _ (g : Told) where
   pub first-none : (ls : List (List ℕ)) → firstCyclic g ls [] ≡ ls
   unfolding firstCyclic
   first-none [] = refl

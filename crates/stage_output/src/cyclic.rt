@@ -1,13 +1,12 @@
-// Cyclic terms of the next stage: the first row whose function stands in an argument. The contracts cite specs/Cyclic, and Making of rows.
+// Cyclic terms of the next stage: the first row whose function stands, with the row, more often on one way down than the depth allows. The
+// contracts cite specs/Cyclic, and Making of rows.
 ghost use mathlib.Core.Path.{_≡_};
 ghost use Prim.Native.Nat.{ℕ, _≤_, _<_};
 ghost use lib.ListN.{getD};
-ghost use Rattle.model.specs.Limits.{termLimit};
 ghost use Rattle.model.specs.Lists.{numbersFrom};
-ghost use Rattle.tables.specs.Terms.{Ordered};
 ghost use Rattle.facts.specs.Atoms.{Sound};
 ghost use Rattle.rows.specs.Making.{cyclicRow};
-ghost use Rattle.stage_output.specs.Cyclic.{Arguments, groundIn, rowWith, rowsWith, Testable, Looked};
+ghost use Rattle.stage_output.specs.Cyclic.{Arguments, groundIn, rowWith, rowsWith, Standable, Testable, Looked};
 
 // A stage has at most 512 terms.
 const TERM_LIMIT: usize = 512;
@@ -38,16 +37,23 @@ fn reach(row: [u16; 10]) -> usize
     reached
 }
 
-// Whether a Skolem row over the first `n` terms is cyclic.
-fn is_cyclic(terms: &[u16], n: usize, row: [u16; 10]) -> bool
-    requires { ⌜ Ordered n (now terms) × (n ≤ termLimit) × Arguments n row ⌝ }
-    ensures { λ r. ⌜ r ≡ cyclicRow (groundIn n (now (terms .entry))) row ⌝ }
+// What a Skolem row is told cyclic by: how many of a table's terms are those of the stage that is left, and the depth.
+pub struct Ground {
+    pub terms: usize,
+    pub depth: u8,
+}
+
+// Whether a Skolem row over the terms of a stage is cyclic.
+fn is_cyclic(terms: &[u16], ground: Ground, row: [u16; 10]) -> bool
+    requires { ⌜ Standable ground (now terms) × Arguments (ground .terms) row ⌝ }
+    ensures { λ r. ⌜ r ≡ cyclicRow (groundIn ground (now (terms .entry))) row ⌝ }
 {
-    let mut marks: [bool; TERM_LIMIT] = [false; TERM_LIMIT];
-    tables::mark_arguments(&row[..], 0, &mut marks[..]);
+    let mut marks: [u8; TERM_LIMIT] = [0; TERM_LIMIT];
+    // its function stands once above its arguments
+    tables::raise_arguments(&row[..], 0, 1, &mut marks[..]);
     // no term behind the greatest argument stands in one
     let count = reach(row);
-    tables::occurs_in_marked(terms, count, row[0], &mut marks[..])
+    tables::nests_in_marked(terms, count, row[0], ground.depth, &mut marks[..])
 }
 
 // A cyclic row, if one was found.
@@ -67,11 +73,11 @@ fn with_variable(
     function: u16,
     template: [u16; 10],
     terms: &[u16],
-    n: usize,
+    ground: Ground,
     before: Tested,
 ) -> Tested
-    requires { ⌜ Testable n (now terms) template before ⌝ }
-    ensures { λ r. ⌜ Looked n (now (terms .entry)) template (rowWith function template) before r ⌝ }
+    requires { ⌜ Testable ground (now terms) template before ⌝ }
+    ensures { λ r. ⌜ Looked ground (now (terms .entry)) template (rowWith function template) before r ⌝ }
 {
     let cyclic = before.cyclic;
     if cyclic.found {
@@ -85,7 +91,7 @@ fn with_variable(
     }
     let mut row = template;
     row[0] = function;
-    let found = is_cyclic(terms, n, row);
+    let found = is_cyclic(terms, ground, row);
     let first = Cyclic { found, row };
     Tested {
         cyclic: first,
@@ -100,17 +106,17 @@ pub(crate) fn with_atom(
     functions: [u16; 8],
     template: [u16; 10],
     terms: &[u16],
-    n: usize,
+    ground: Ground,
     before: Tested,
 ) -> Tested
-    requires { ⌜ Sound atom arity × Testable n (now terms) template before ⌝ }
-    ensures { λ r. ⌜ Looked n (now (terms .entry)) template (rowsWith functions template (numbersFrom atom 1 arity)) before r ⌝ }
+    requires { ⌜ Sound atom arity × Testable ground (now terms) template before ⌝ }
+    ensures { λ r. ⌜ Looked ground (now (terms .entry)) template (rowsWith functions template (numbersFrom atom 1 arity)) before r ⌝ }
 {
     let mut so_far = before;
     let mut p = 0;
     while p < arity {
         let function = functions[atom[p + 1] as usize];
-        so_far = with_variable(function, template, terms, n, so_far);
+        so_far = with_variable(function, template, terms, ground, so_far);
         p += 1;
     }
     so_far

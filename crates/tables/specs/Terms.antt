@@ -1,11 +1,13 @@
--- Terms as rows of ten numbers: the Skolem function (0 for a constant), its arity, eight argument numbers, unused 0. Sizes, and which
--- functions stand in a term, by term numbers. Assumes nothing.
+-- Terms as rows of ten numbers: the Skolem function (0 for a constant), its arity, eight argument numbers, unused 0. Sizes, and how often a
+-- function stands on one way down a term, by term numbers. Assumes nothing.
 use mathlib.Core.List.{List, [], _∷_}
-use mathlib.Core.Bool.{Bool, true, false, _&&_, _||_}
+use mathlib.Core.Bool.{true, false}
 use Prim.Native.Nat.{ℕ, zero, suc, _+_, _*_, _≤_, _<_}
 use lib.Dec.{eqb}
-use lib.ListN.{length, getD, set}
-use Rattle.model.specs.Lists.{any, numbersFrom}
+use lib.ListN.{length, getD}
+use Rattle.model.specs.Lists.{numbersFrom}
+use Rattle.model.specs.Term.{meeting}
+use Rattle.rows.specs.Making.{most}
 
 abbrev pub functionOf : List ℕ → ℕ → ℕ
 functionOf table i = getD table (i * 10) 0
@@ -42,29 +44,10 @@ sizeWithin (suc k) table i = suc (total (sizeWithin k table) (argumentsOf table 
 unfoldable pub sizeAt : List ℕ → ℕ → ℕ
 sizeAt table i = sizeWithin (suc i) table i
 
--- f stands in term i; k bounds how deep it is
-unfoldable pub occursWithin : ℕ → List ℕ → ℕ → ℕ → Bool
-occursWithin zero table f i = false
-occursWithin (suc k) table f i = eqb f (functionOf table i) || any (occursWithin k table f) (argumentsOf table i)
+-- how often f stands on one way down from term i, at most; k bounds how deep it is
+unfoldable pub nestingWithin : ℕ → List ℕ → ℕ → ℕ → ℕ
+nestingWithin zero table f i = 0
+nestingWithin (suc k) table f i = meeting f (functionOf table i) (most (nestingWithin k table f) (argumentsOf table i))
 
-unfoldable pub occursAt : List ℕ → ℕ → ℕ → Bool
-occursAt table f i = occursWithin (suc i) table f i
-
--- marks, by term number, with some more terms marked
-unfoldable pub marked : List ℕ → List Bool → List Bool
-marked [] marks = marks
-marked (a ∷ as') marks = marked as' (set marks a true)
-
--- f stands in a marked term, of the first n
-unfoldable pub occursMarked : List ℕ → ℕ → ℕ → List Bool → Bool
-occursMarked table f zero marks = false
-occursMarked table f (suc n) marks = occursMarked table f n marks || (getD marks n false && occursAt table f n)
-
--- the marks of the first n terms passed down to their arguments, from the last term on, as far as one whose function is f
-unfoldable pub passedDown : List ℕ → ℕ → ℕ → List Bool → List Bool
-passedDown table f zero marks = marks
-passedDown table f (suc n) marks =
-    elim (getD marks n false) [
-      | true ↦ elim (eqb f (functionOf table n)) [ true ↦ marks | false ↦ passedDown table f n (marked (argumentsOf table n) marks) ]
-      | false ↦ passedDown table f n marks
-    ]
+unfoldable pub nestingAt : List ℕ → ℕ → ℕ → ℕ
+nestingAt table f i = nestingWithin (suc i) table f i

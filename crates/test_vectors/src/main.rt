@@ -39,6 +39,7 @@ fn main() {
         .plus(try_group(b"misreadings"))
         .plus(try_group(b"limits"))
         .plus(try_group(b"order"))
+        .plus(try_group(b"depths"))
         .plus(try_group(b"random"))
         .plus(try_group(b"damaged"))
         .plus(try_group(b"longer"))

@@ -1,6 +1,7 @@
-// A case `L TTTT FFFF BOOK TEXT` of `print`: which lists it is lent, what it leaves of the tables, as `tables` says, the book's file, and the
-// file of the text. L is `=` for lists of the lengths that `print` asks for, `+` for longer ones, `t`, `f` or `o` where the terms, the facts or
-// the text's bytes are one short: then the answer is refusal 1 at place 0, and nothing is touched.
+// A case `L DDDD TTTT FFFF BOOK TEXT` of `print`: which lists it is lent, the depth, what it leaves of the tables, as `tables` says, the book's
+// file, and the file of the text. L is `=` for lists of the lengths that `print` asks for, `+` for longer ones, `t`, `f` or `o` where the terms,
+// the facts or the text's bytes are one short: then the answer is refusal 1 at place 0. It is `d` where the number is no depth, and the answer
+// refusal 18. Neither touches anything.
 use crate::tables;
 use report::FACTS_FRONT;
 use report::TERMS_FRONT;
@@ -11,6 +12,7 @@ use test_support::answer::is_other;
 use test_support::answer::shown;
 use test_support::bytes;
 use test_support::column::find;
+use test_support::column::four;
 use test_support::file;
 use test_support::numbers;
 use test_support::say;
@@ -19,6 +21,13 @@ ghost use lib.ListN.{length};
 
 // How much longer a list may be than `print` asks.
 const MORE: usize = 57;
+
+// Where the columns of a case begin.
+const DEPTH_COLUMN: usize = 2;
+
+const TABLES_COLUMN: usize = 7;
+
+const BOOK_COLUMN: usize = 17;
 
 // One byte more than the longest book has.
 const INPUT_LIMIT: usize = 6856;
@@ -44,6 +53,12 @@ fn expected(lists: u8, length: usize) -> Answer {
             place: 0,
         };
     }
+    if lists == b'd' {
+        return Answer {
+            refusal: 18,
+            place: 0,
+        };
+    }
     Answer {
         refusal: 0,
         place: length,
@@ -59,9 +74,15 @@ fn compared(
     facts: &mut [u16],
     out: &mut [u8],
 ) -> bool
-    requires { ⌜ 2 ≤ length (now line) ⌝ }
+    requires { ⌜ 7 ≤ length (now line) ⌝ }
 {
-    let transfer = print(book, &mut *terms, &mut *facts, &mut *out);
+    let transfer = print(
+        book,
+        four(line, DEPTH_COLUMN),
+        &mut *terms,
+        &mut *facts,
+        &mut *out,
+    );
     let found = shown(transfer);
     if is_other(line, expected(line[0], text.len()), found) {
         return true;
@@ -70,7 +91,7 @@ fn compared(
         say::note(line, b"another text");
         return true;
     }
-    if tables::are_right(&line[2..], terms, facts) {
+    if tables::are_right(&line[TABLES_COLUMN..], terms, facts) {
         return false;
     }
     say::note(line, b"other tables");
@@ -79,7 +100,7 @@ fn compared(
 
 // Whether `print` differs on a book, over lists that its case names.
 fn tried(line: &[u8], book: &[u8], text: &[u8]) -> bool
-    requires { ⌜ 2 ≤ length (now line) ⌝ }
+    requires { ⌜ 7 ≤ length (now line) ⌝ }
 {
     let lists = line[0];
     let mut terms = [numbers::MARK; TERMS_FRONT + MORE];
@@ -100,16 +121,16 @@ fn tried(line: &[u8], book: &[u8], text: &[u8]) -> bool
 
 // Whether a case differs, by the front of its book.
 pub fn differs(line: &[u8]) -> bool {
-    if line.len() < 12 {
+    if line.len() < BOOK_COLUMN {
         say::note(line, b"no case");
         return true;
     }
-    let space = find(line, 12, b' ');
+    let space = find(line, BOOK_COLUMN, b' ');
     if line.len() <= space {
         say::note(line, b"no case");
         return true;
     }
-    let fd = file::open(&line[12..space]);
+    let fd = file::open(&line[BOOK_COLUMN..space]);
     if fd < 0 {
         return true;
     }

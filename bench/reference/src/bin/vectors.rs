@@ -1,4 +1,5 @@
-//! Runs the vectors of a folder, NAME.book beside NAME.txt, through the reference. A test instrument: unproved.
+//! Runs the vectors of a folder through the reference: NAME.book beside NAME.txt at depth 1, and beside NAME-depthD.txt at
+//! depth D. A test instrument: unproved.
 
 use std::path::PathBuf;
 
@@ -8,14 +9,18 @@ fn main() -> std::io::Result<()> {
         std::fs::read_dir(&folder)?.map(|entry| entry.map(|entry| entry.path())).collect::<Result<_, _>>()?;
     names.retain(|name| name.extension().is_some_and(|extension| extension == "book"));
     names.sort();
-    let mut failed = 0;
+    let (mut passed, mut failed) = (0, 0);
     for name in &names {
-        let expected = std::fs::read_to_string(name.with_extension("txt"))?;
-        if reference::print(&std::fs::read(name)?) != expected {
-            println!("differs: {}", name.display());
-            failed += 1;
+        let book = std::fs::read(name)?;
+        for (depth, expected) in reference::print::expected(name)? {
+            if reference::print::print_at(&book, depth) == expected {
+                passed += 1;
+            } else {
+                println!("differs: {} at depth {depth}", name.display());
+                failed += 1;
+            }
         }
     }
-    println!("vectors, reference: {} passed, {failed} failed", names.len() - failed);
-    std::process::exit((failed > 0 || names.is_empty()) as i32);
+    println!("vectors, reference: {passed} passed, {failed} failed");
+    std::process::exit((failed > 0 || passed == 0) as i32);
 }

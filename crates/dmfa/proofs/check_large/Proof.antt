@@ -18,7 +18,7 @@ returns c =
     let a = s .args in
     let d = c .before .before .before .before .before .before .before .before .before .check-by in
     let g = c .before .large .given in
-    subst (λ (x : Checked). CheckedAs (a .form .now) 105264 (a .terms .now) (a .facts .now) x (d .last .1 .1 .1 .1 .0) (d .last .1 .1 .1 .1 .1 .0)) (g .1) (d .ensures)
+    subst (λ (x : Checked). CheckedAs (a .depth) (a .form .now) 105264 (a .terms .now) (a .facts .now) x (d .last .1 .1 .1 .1 .0) (d .last .1 .1 .1 .1 .1 .0)) (g .1) (d .ensures)
 
 -- the room is not short
 
@@ -27,7 +27,7 @@ returns-2 c =
     let s = c .before .before .before .before .before .before .before .before .before .before .before .before .before .before .before .before .before in
     let a = s .args in
     let d = c .before .before .before .before .before .before .before .before .check-by in
-    let k = subst (λ (x : Checked). CheckedAs (a .form .now) 105264 (a .terms .now) (a .facts .now) x (d .last .1 .1 .1 .1 .0) (d .last .1 .1 .1 .1 .1 .0)) (c .enum-told .given .1) (d .ensures) in
+    let k = subst (λ (x : Checked). CheckedAs (a .depth) (a .form .now) 105264 (a .terms .now) (a .facts .now) x (d .last .1 .1 .1 .1 .0) (d .last .1 .1 .1 .1 .1 .0)) (c .enum-told .given .1) (d .ensures) in
     absurd (omega (arith, k .0))
 
 pub check-large-spec : {M : Type 1} → statement M

@@ -27,17 +27,17 @@ write-text-requires : tie.Need-write-text-requires
 write-text-requires c κs =
     let a = c .before .before .before in
     let s = a .before .before .before .before .before .before .before .before in
-    let (terms₀, facts₀, e) = s .pre .0 in (
-      answer-legible (declares a) terms₀ facts₀ (s .args .verdict) (s .args .terms .now) (s .args .facts .now) e,
-      answer-room (declares a) terms₀ facts₀ (s .args .verdict) (s .args .terms .now) (s .args .facts .now) e (s .args .out .now) (s .pre .1),
+    let (depth, terms₀, facts₀, e) = s .pre .0 in (
+      answer-legible (declares a) depth terms₀ facts₀ (s .args .verdict) (s .args .terms .now) (s .args .facts .now) e,
+      answer-room (declares a) depth terms₀ facts₀ (s .args .verdict) (s .args .terms .now) (s .args .facts .now) e (s .args .out .now) (s .pre .1),
     )
 
 returns : tie.Need-returns
 returns c =
     let a = c .before .before .before .before .before .before in
     let s = a .before .before .before .before .before .before .before .before in
-    let (terms₀, facts₀, e) = s .pre .0 in
-    rw (answer-text (declares a) terms₀ facts₀ (s .args .verdict) (s .args .terms .now) (s .args .facts .now) e) at (c .before .before .write-text .ensures)
+    let (depth, terms₀, facts₀, e) = s .pre .0 in
+    rw (answer-text (declares a) depth terms₀ facts₀ (s .args .verdict) (s .args .terms .now) (s .args .facts .now) e) at (c .before .before .write-text .ensures)
 
 pub write-answer-spec : {M : Type 1} → statement M
 write-answer-spec =

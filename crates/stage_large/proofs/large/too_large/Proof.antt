@@ -62,7 +62,7 @@ loop-again c =
       l .loop .inv .1,
       l .loop .inv .2
           ∙ any-passed (largeRule t) (rulesOf (a .form .now)) (l .loop .i) (record { body = []; head = [] }) h
-          (idle-not-large (a .form .now) (a .terms .now) (a .counts .terms) (a .facts .now) (a .counts .facts) (a .counts .old) (s .pre .0 .tabled) (s .pre .1) (l .loop .i) h (sym (c .before .is-idle .ensures) ∙ c .if1 .taken)),
+          (idle-not-large (a .form .now) (a .terms .now) (a .counts .terms) (a .facts .now) (a .counts .facts) (a .counts .old) (a .counts .depth) (s .pre .0 .tabled) (s .pre .1) (l .loop .i) h (sym (c .before .is-idle .ensures) ∙ c .if1 .taken)),
       l .loop .inv .3,
       l .loop .inv .4,
     )
@@ -131,7 +131,7 @@ returns c =
     (l .loop .inv .2
     ∙ any-found (largeRule t) (rulesOf (a .form .now)) (l .loop .i) (record { body = []; head = [] }) h
     (large-rule t (ruleOf (a .form .now) (l .loop .i)) k
-    (sym (given-large (a .form .now) (a .terms .now) (a .counts .terms) (a .facts .now) (a .counts .facts) (a .counts .old) (s .pre .0 .tabled) (s .pre .1) (l .loop .i) h (d .before .before .before .body .result)
+    (sym (given-large (a .form .now) (a .terms .now) (a .counts .terms) (a .facts .now) (a .counts .facts) (a .counts .old) (a .counts .depth) (s .pre .0 .tabled) (s .pre .1) (l .loop .i) h (d .before .before .before .body .result)
     (d .before .before .body-arities .result) (d .before .body-count .result) (d .body-set .result) (d .before .before .before .body .ensures)
     (d .before .before .body-arities .ensures) (d .before .body-count .ensures) (d .body-set .ensures) k)
     ∙ sym (c .before .before .any-large .ensures .0)
@@ -153,7 +153,7 @@ loop-again-2 c =
       l .loop .inv .2
           ∙ passed
           (no-large t (ruleOf (a .form .now) (l .loop .i))
-          (sym (given-large (a .form .now) (a .terms .now) (a .counts .terms) (a .facts .now) (a .counts .facts) (a .counts .old) (s .pre .0 .tabled) (s .pre .1) (l .loop .i) h (w .1 .result) (w .2 .result) (w .3 .result) (w .4 .result)
+          (sym (given-large (a .form .now) (a .terms .now) (a .counts .terms) (a .facts .now) (a .counts .facts) (a .counts .old) (a .counts .depth) (s .pre .0 .tabled) (s .pre .1) (l .loop .i) h (w .1 .result) (w .2 .result) (w .3 .result) (w .4 .result)
           (w .1 .ensures) (w .2 .ensures) (w .3 .ensures) (w .4 .ensures)
           (and-true (blockable (ruleOf (a .form .now) (l .loop .i))) (ltb 64 (l .before .greatest .result * length (elements (setOf (universal (ruleOf (a .form .now) (l .loop .i)))))))
           (sym (c .before .can-be-large .ensures) ∙ w .0 .taken) .0))

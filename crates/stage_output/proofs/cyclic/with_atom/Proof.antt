@@ -13,17 +13,17 @@ use Rattle.stage_output.proofs.cyclic.with_atom.Statement.{statement}
 use Rattle.stage_output.proofs.cyclic.with_atom.Tie as tie
 
 abbrev Inv-loop : tie.InvT-loop
-Inv-loop arity template terms n atom functions so-far₀ p₀ so-far p =
-    (p ≤ arity) × Looked n terms template (rowsWith functions template (numbersFrom atom 1 p)) so-far₀ so-far
+Inv-loop arity template terms ground atom functions so-far₀ p₀ so-far p =
+    (p ≤ arity) × Looked ground terms template (rowsWith functions template (numbersFrom atom 1 p)) so-far₀ so-far
 
 abbrev μ-loop : tie.MeasureT-loop
-μ-loop arity template terms n atom functions so-far₀ p₀ so-far p = arity - p
+μ-loop arity template terms ground atom functions so-far₀ p₀ so-far p = arity - p
 
 loop-holds : tie.Need-loop-holds Inv-loop μ-loop
 loop-holds c =
     let s = c .before in
     let a = s .args in
-    let g = groundIn (a .n) (a .terms .now) in (
+    let g = groundIn (a .ground) (a .terms .now) in (
       omega arith,
       record {
         first = sym (ap (firstCyclic g (cyclicOf (a .before .cyclic))) (rowsWith-none (a .t3) (a .template) (a .t1)) ∙ first-none g (cyclicOf (a .before .cyclic)));
@@ -43,14 +43,14 @@ array-read-function-2 c = omega (arith, c .before .before .before .pre .0 .varia
 with-variable-requires : tie.Need-with-variable-requires Inv-loop μ-loop
 with-variable-requires c κs =
     let p = c .before .before .before .pre .1 in
-    record { ordered = p .ordered; few = p .few; arguments = p .arguments; unchanging = c .before .loop .inv .1 .unchanging }
+    record { standing = p .standing; arguments = p .arguments; unchanging = c .before .loop .inv .1 .unchanging }
 
 loop-again : tie.Need-loop-again Inv-loop μ-loop
 loop-again c =
     let w = c .with-variable .ensures in
     let l = c .before .before in
     let a = l .before .before .args in
-    let g = groundIn (a .n) (a .terms .now) in
+    let g = groundIn (a .ground) (a .terms .now) in
     let f = getD (a .t3) (getD (a .t1) (l .loop .p + 1) 0) 0 in
     let seen = rowsWith (a .t3) (a .template) (numbersFrom (a .t1) 1 (l .loop .p)) in (
       omega arith,
@@ -70,7 +70,7 @@ returns c =
     let e : l .loop .p ≡ a .arity = omega arith in
     record {
       first = l .loop .inv .1 .first
-          ∙ ap (λ (k : ℕ). firstCyclic (groundIn (a .n) (a .terms .now)) (cyclicOf (a .before .cyclic)) (rowsWith (a .t3) (a .template) (numbersFrom (a .t1) 1 k))) e;
+          ∙ ap (λ (k : ℕ). firstCyclic (groundIn (a .ground) (a .terms .now)) (cyclicOf (a .before .cyclic)) (rowsWith (a .t3) (a .template) (numbersFrom (a .t1) 1 k))) e;
       unchanging = l .loop .inv .1 .unchanging;
     }
 

@@ -12,36 +12,36 @@ returns : tie.Need-returns
 returns c =
     let s = c .before .before .before in
     let a = s .args in
-    record { first = first-old (groundIn (a .n) (a .terms .now)) (a .before .cyclic) _ (c .if1 .taken); unchanging = s .pre .unchanging }
+    record { first = first-old (groundIn (a .ground) (a .terms .now)) (a .before .cyclic) _ (c .if1 .taken); unchanging = s .pre .unchanging }
 
 returns-2 : tie.Need-returns-2
 returns-2 c =
     let s = c .before .before .before .before in
     let a = s .args in
-    record { first = first-without (groundIn (a .n) (a .terms .now)) (a .before .cyclic) (a .function) (a .template) (c .if2 .taken); unchanging = s .pre .unchanging }
+    record { first = first-without (groundIn (a .ground) (a .terms .now)) (a .before .cyclic) (a .function) (a .template) (c .if2 .taken); unchanging = s .pre .unchanging }
 
 returns-3 : tie.Need-returns-3
 returns-3 c =
     let s = c .before .before .before .before .before .before in
     let a = s .args in
     record {
-      first = s .pre .unchanging ∙ ap (λ (f : ℕ). firstCyclic (groundIn (a .n) (a .terms .now)) (cyclicOf (a .before .cyclic)) (rowWith f (a .template))) (sym (c .if3 .taken));
+      first = s .pre .unchanging ∙ ap (λ (f : ℕ). firstCyclic (groundIn (a .ground) (a .terms .now)) (cyclicOf (a .before .cyclic)) (rowWith f (a .template))) (sym (c .if3 .taken));
       unchanging = s .pre .unchanging;
     }
 
 is-cyclic-requires : tie.Need-is-cyclic-requires
 is-cyclic-requires c κs =
     let s = c .before .before .before .before .before .before in
-    (s .pre .ordered, s .pre .few, arguments-set (s .args .function) (s .pre .arguments))
+    (s .pre .standing, arguments-set (s .args .function) (s .pre .arguments))
 
 returns-4 : tie.Need-returns-4
 returns-4 c =
     let a = c .before .before .before .before .before .before .before .args in
     let some = c .before .before .before .if2 .left in
     record {
-      first = first-test (groundIn (a .n) (a .terms .now)) (a .before .cyclic) (a .function) (a .template) (c .before .before .before .before .if1 .left) some
+      first = first-test (groundIn (a .ground) (a .terms .now)) (a .before .cyclic) (a .function) (a .template) (c .before .before .before .before .if1 .left) some
           (c .is-cyclic .result) (c .is-cyclic .ensures);
-      unchanging = unchanging-again (groundIn (a .n) (a .terms .now)) (a .function) (a .template) some (c .is-cyclic .result) (c .is-cyclic .ensures);
+      unchanging = unchanging-again (groundIn (a .ground) (a .terms .now)) (a .function) (a .template) some (c .is-cyclic .result) (c .is-cyclic .ensures);
     }
 
 pub with-variable-spec : {M : Type 1} → statement M
