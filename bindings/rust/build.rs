@@ -1,4 +1,5 @@
-//! Links the static library from RULFJEN_LIB_DIR, or from where `rt staticlib embed` leaves it.
+//! Links the static libraries from RULFJEN_LIB_DIR, or from where `rt staticlib embed` and `rt staticlib embed_columns`
+//! leave them.
 
 use std::path::PathBuf;
 
@@ -9,4 +10,6 @@ fn main() {
     println!("cargo:rerun-if-changed={}", folder.join("libembed.a").display());
     println!("cargo:rustc-link-search=native={}", folder.display());
     println!("cargo:rustc-link-lib=static=embed");
+    println!("cargo:rerun-if-changed={}", folder.join("libembed_columns.a").display());
+    println!("cargo:rustc-link-lib=static=embed_columns");
 }

@@ -12,9 +12,11 @@
 //! - `blocking`: the blocking test
 //! - `stages`: the stages and the verdict
 //! - `print`: the text of an answer
+//! - `columns`: the store of an answer's records
 
 pub mod blocking;
 pub mod book;
+pub mod columns;
 pub mod draft;
 pub mod facts;
 pub mod form;

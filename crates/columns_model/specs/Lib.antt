@@ -1,0 +1,4 @@
+pub mod Differences
+pub mod Columns
+pub mod Store
+pub mod Cases

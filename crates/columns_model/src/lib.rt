@@ -1,0 +1,1 @@
+// stores of two tables: the definitions in specs/, the theorems about them in proofs/
