@@ -7,15 +7,17 @@ use Prim.Native.Nat.{ℕ, zero, suc, _+_, _-_, _≤_, _<_}
 use native.Mathlib.Nat.{add-zero, add-suc, suc-add, zero-add}
 use native.Mathlib.Omega.{arith}
 use lib.Dec.{eqb}
-use lib.ListN.{length, set}
+use lib.ListN.{length, getD, set, replicate, length-append, length-set, length-replicate}
+use lib.Seq.{getD-set-other}
+use borrow.Author.Count.{below-more}
 use borrow.Author.Tests.{eq-eqb, ne-eqb}
 use Rattle.model.specs.Lists.{keep, index, padded}
 use Rattle.laws.proofs.Bools.{case}
 use Rattle.laws.proofs.Lists.{keep-yes, keep-no, keep-mem, index-here, index-there, eqb-decides}
 use Rattle.laws.specs.Lists.{rising}
 use Rattle.form_variables.specs.Sets.{has, elements}
-use Rattle.outputs.specs.Skolem.{functionWith, templateWith, placed}
-use Rattle.facts.proofs.Rows.{padded-more}
+use Rattle.outputs.specs.Skolem.{functionWith, templateWith}
+use Rattle.facts.proofs.Rows.{padded-more, set-below}
 
 -- numbers in rising order
 
@@ -124,21 +126,28 @@ map-length : (α : ℕ → ℕ) (xs : List ℕ) → length (map α xs) ≡ lengt
 map-length α [] = refl
 map-length α (x ∷ xs) = ap suc (map-length α xs)
 
-pub filledUp-more : (s : ℕ) (α : ℕ → ℕ) (v : ℕ) → v < 8 → placed (filledUp s α v) s v (α v) ≡ filledUp s α (v + 1)
-unfolding filledUp placed
-filledUp-more s α v h = go (case (has s v))
-  where
-    go : (has s v ≡ true) ⊎ (has s v ≡ false) → placed (filledUp s α v) s v (α v) ≡ filledUp s α (v + 1)
-    go (inl e) =
-        let xs : List ℕ = 0 ∷ length (elements s) ∷ map α (below s v) in
-        let l = map-length α (below s v) in
-        let b = below-length s v in
-        let at : 2 + index eqb v (elements s) ≡ length xs = omega (arith, rank-below s v h e) in
-        rw (e, placed)
-        (ap (λ (k : ℕ). set (padded 10 xs) k (α v)) at
-        ∙ padded-more 10 xs (α v) (omega arith)
-        ∙ ap (λ (ys : List ℕ). padded 10 (0 ∷ length (elements s) ∷ ys)) (sym (map-append α (below s v) (v ∷ [])) ∙ ap (map α) (sym (below-yes s v e))))
-    go (inr e) = rw (e, placed) (ap (λ (ys : List ℕ). padded 10 (0 ∷ length (elements s) ∷ map α ys)) (sym (below-no s v e)))
+pub filledUp-more : (s : ℕ) (α : ℕ → ℕ) (v : ℕ) → v < 8 → has s v ≡ true → set (filledUp s α v) (2 + length (below s v)) (α v) ≡ filledUp s α (v + 1)
+unfolding filledUp
+filledUp-more s α v h e =
+    let xs : List ℕ = 0 ∷ length (elements s) ∷ map α (below s v) in
+    let l = map-length α (below s v) in
+    let b = below-length s v in
+    let at : 2 + length (below s v) ≡ length xs = omega arith in
+    ap (λ (k : ℕ). set (padded 10 xs) k (α v)) at
+    ∙ padded-more 10 xs (α v) (omega arith)
+    ∙ ap (λ (ys : List ℕ). padded 10 (0 ∷ length (elements s) ∷ ys)) (sym (map-append α (below s v) (v ∷ [])) ∙ ap (map α) (sym (below-yes s v e)))
+
+pub filledUp-same : (s : ℕ) (α : ℕ → ℕ) (v : ℕ) → has s v ≡ false → filledUp s α v ≡ filledUp s α (v + 1)
+unfolding filledUp
+filledUp-same s α v e = ap (λ (ys : List ℕ). padded 10 (0 ∷ length (elements s) ∷ map α ys)) (sym (below-no s v e))
+
+-- how many variables of a set are below the next one
+
+pub below-one : (s v : ℕ) → has s v ≡ true → length (below s (v + 1)) ≡ length (below s v) + 1
+below-one s v e = ap length (below-yes s v e) ∙ length-append (below s v) (v ∷ [])
+
+pub below-same : (s v : ℕ) → has s v ≡ false → length (below s (v + 1)) ≡ length (below s v)
+below-same s v e = ap length (below-no s v e)
 
 pub functionWith-none : (s b v : ℕ) → has s v ≡ false → functionWith s b v ≡ 0
 unfolding functionWith
@@ -148,10 +157,42 @@ pub functionWith-some : (s b v : ℕ) → has s v ≡ true → functionWith s b 
 unfolding functionWith
 functionWith-some s b v e = rw (e, functionWith)
 
-pub placed-none : (row : List ℕ) (s v n : ℕ) → has s v ≡ false → placed row s v n ≡ row
-unfolding placed
-placed-none row s v n e = rw (e, placed)
+-- the functions of the variables below v, the last of which was given last; 0 for the others
+pub record Counted (s before : ℕ) (numbers : List ℕ) (last v : ℕ) : Type 0 where
+  pub long : length numbers ≡ 8
+  pub up-to : last ≡ before + length (below s v)
+  pub given : (k : ℕ) → k < v → getD numbers k 0 ≡ functionWith s before k
+  pub others : (k : ℕ) → v ≤ k → getD numbers k 0 ≡ 0
 
-pub placed-some : (row : List ℕ) (s v n : ℕ) → has s v ≡ true → placed row s v n ≡ set row (2 + index eqb v (elements s)) n
-unfolding placed
-placed-some row s v n e = rw (e, placed)
+pub counted-none : (s before : ℕ) → Counted s before (replicate 8 0) before 0
+counted-none s before =
+    record {
+      long = length-replicate {A = ℕ} 8 0;
+      up-to = let e = ap length (below-none s) in omega arith;
+      given = λ k h. absurd (omega arith);
+      others = λ k h. getD-zeros 8 k;
+    }
+  where
+    getD-zeros : (n k : ℕ) → _≡_ {A = ℕ} (getD (replicate n 0) k 0) 0
+    getD-zeros zero k = refl
+    getD-zeros (suc n) zero = refl
+    getD-zeros (suc n) (suc k) = getD-zeros n k
+
+module _ (s before : ℕ) (numbers : List ℕ) (last v : ℕ) (c : Counted s before numbers last v) where
+  pub counted-yes : v < 8 → has s v ≡ true → Counted s before (set numbers v (last + 1)) (last + 1) (v + 1)
+  counted-yes h e =
+      record {
+        long = length-set numbers v (last + 1) ∙ c .long;
+        up-to = omega (arith, c .up-to, below-one s v e);
+        given = set-below (functionWith s before) numbers v (last + 1) (omega (arith, c .long)) (omega (arith, c .up-to, functionWith-some s before v e, rank-below s v h e)) (c .given);
+        others = λ k l. getD-set-other numbers v k (last + 1) 0 (λ q. omega arith) ∙ c .others k (omega arith);
+      }
+
+  pub counted-no : has s v ≡ false → Counted s before numbers last (v + 1)
+  counted-no e =
+      record {
+        long = c .long;
+        up-to = omega (arith, c .up-to, below-same s v e);
+        given = below-more (λ (k : ℕ). getD numbers k 0 ≡ functionWith s before k) v (c .given) (c .others v (omega arith) ∙ sym (functionWith-none s before v e));
+        others = λ k l. c .others k (omega arith);
+      }

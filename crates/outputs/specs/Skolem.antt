@@ -3,7 +3,7 @@ use mathlib.Core.List.{List, _∷_, map}
 use mathlib.Core.Bool.{true, false}
 use Prim.Native.Nat.{ℕ, suc, _+_}
 use lib.Dec.{eqb}
-use lib.ListN.{length, set}
+use lib.ListN.{length}
 use Rattle.model.specs.Lists.{index, padded}
 use Rattle.form_variables.specs.Sets.{has, elements}
 
@@ -18,7 +18,3 @@ functionWith existential before v = elim (has existential v) [ true ↦ before +
 -- the row of the Skolem terms, but for their function
 unfoldable pub templateWith : List ℕ → (ℕ → ℕ) → List ℕ
 templateWith frontier α = padded 10 (0 ∷ length frontier ∷ map α frontier)
-
--- the number of a variable of the frontier at its place
-unfoldable pub placed : List ℕ → ℕ → ℕ → ℕ → List ℕ
-placed row frontier v number = elim (has frontier v) [ true ↦ set row (2 + index eqb v (elements frontier)) number | false ↦ row ]

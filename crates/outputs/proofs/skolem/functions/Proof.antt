@@ -1,61 +1,47 @@
 -- `outputs::skolem::functions` meets its contract. The loop's invariant: the variables passed have their functions. Assumes nothing.
-use lib.ListN.{length-set, length, getD}
-use Rattle.facts.proofs.Rows.{set-below}
-use mathlib.Core.Path.{_≡_, refl, _∙_}
-use Prim.Native.Nat.{ℕ, _-_, _≤_, _<_}
+use mathlib.Core.Path.{_≡_, sym, ap₂, _∙_, subst₂}
+use mathlib.Core.Logic.{⊎-elim}
+use mathlib.Core.List.{List}
+use Prim.Native.Nat.{ℕ, _+_, _-_, _≤_}
 use native.Mathlib.Omega.{arith}
-use Rattle.outputs.specs.Skolem.{functionWith}
+use borrow.Author.Needs.{needs}
+use Rattle.outputs.proofs.Variables.{below-length, Counted, counted-none, counted-yes, counted-no}
 use Rattle.outputs.proofs.skolem.functions.Statement.{statement}
 use Rattle.outputs.proofs.skolem.functions.Tie as tie
 
 abbrev Inv-loop : tie.InvT-loop
-Inv-loop existential before numbers₀ v₀ numbers v = (v ≤ 8) × (length numbers ≡ 8) × ((k : ℕ) → k < v → getD numbers k 0 ≡ functionWith existential before k)
+Inv-loop existential before numbers₀ last₀ v₀ numbers last v = (v ≤ 8) × Counted existential before numbers last v
 
 abbrev μ-loop : tie.MeasureT-loop
-μ-loop existential before numbers₀ v₀ numbers v = 8 - v
+μ-loop existential before numbers₀ last₀ v₀ numbers last v = 8 - v
 
--- src/skolem.rt:30:5
 loop-holds : tie.Need-loop-holds Inv-loop μ-loop
-loop-holds c = (omega arith, refl, λ k h. absurd (omega arith))
+loop-holds c = (omega arith, counted-none (c .args .existential) (c .args .before))
 
--- src/skolem.rt:31:55
-cast-function-of : tie.Need-cast-function-of Inv-loop μ-loop
-cast-function-of c = omega arith
+add-last : tie.Need-add-last Inv-loop μ-loop
+add-last c =
+    let l = c .before .before .before in
+    let s = l .before in
+    let few = s .pre in
+    let b = below-length (s .args .existential) (l .loop .v) in
+    record { fits = omega (arith, l .loop .inv .1 .up-to) }
 
--- src/skolem.rt:31:22
-function-of-requires : tie.Need-function-of-requires Inv-loop μ-loop
-function-of-requires c κs = (omega arith, c .before .before .pre)
-
--- src/skolem.rt:31:9
-mul-numbers : tie.Need-mul-numbers Inv-loop μ-loop
-mul-numbers c = omega arith
-
--- src/skolem.rt:31:9
-array-write-numbers : tie.Need-array-write-numbers Inv-loop μ-loop
-array-write-numbers c = omega arith
-
--- src/skolem.rt:32:9
-add-v : tie.Need-add-v Inv-loop μ-loop
-add-v c = omega arith
-
--- src/skolem.rt:30:5
-loop-less : tie.Need-loop-less Inv-loop μ-loop
-loop-less c = omega arith
-
--- src/skolem.rt:30:5
 loop-again : tie.Need-loop-again Inv-loop μ-loop
 loop-again c =
-    let l = c .before .before in
-    let a = c .before .before .before .args in
-    let z = l .loop .inv .1 in (
+    let l = c .before .before .before in
+    let a = l .before .args in
+    let told = c .before .contains .ensures in
+    let inv = l .loop .inv .1 in (
       omega arith,
-      length-set (l .loop .numbers) (l .loop .v) (c .function-of .result) ∙ z,
-      set-below (functionWith (a .existential) (a .before)) (l .loop .numbers) (l .loop .v) (c .function-of .result) (omega arith) (c .function-of .ensures) (l .loop .inv .2),
+      ⊎-elim
+          (λ w. subst₂ (λ (xs : List ℕ) (n : ℕ). Counted (a .existential) (a .before) xs n (l .loop .v + 1)) (sym (w .1)) (sym (w .2))
+          (counted-yes (a .existential) (a .before) (l .loop .numbers) (l .loop .last) (l .loop .v) inv (omega arith) (sym told ∙ w .0 .taken)))
+          (λ w. subst₂ (λ (xs : List ℕ) (n : ℕ). Counted (a .existential) (a .before) xs n (l .loop .v + 1)) (sym (w .1)) (sym (w .2))
+          (counted-no (a .existential) (a .before) (l .loop .numbers) (l .loop .last) (l .loop .v) inv (sym told ∙ w .0 .left))) (c .if1 .came),
     )
 
--- src/skolem.rt:24:1
 returns : tie.Need-returns Inv-loop μ-loop
-returns c = λ v h. c .before .loop .inv .2 v (omega arith)
+returns c = λ v h. c .before .loop .inv .1 .given v (omega arith)
 
 pub functions-spec : {M : Type 1} → statement M
 functions-spec =
@@ -64,11 +50,12 @@ functions-spec =
     Inv-loop
     μ-loop
     loop-holds
-    cast-function-of
-    function-of-requires
-    mul-numbers
-    array-write-numbers
-    add-v
-    loop-less
+    (λ c. omega arith)
+    (λ c κs. omega arith)
+    add-last
+    (λ c. omega arith)
+    (λ c. omega arith)
+    (λ c. omega arith)
+    (λ c. omega arith)
     loop-again
     returns)

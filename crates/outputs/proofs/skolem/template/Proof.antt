@@ -1,77 +1,55 @@
--- `outputs::skolem::template` meets its contract. The loop's invariant: the row has the numbers of the variables passed. Assumes nothing.
-use Rattle.outputs.specs.Skolem.{placed}
-use Rattle.outputs.proofs.Variables.{elements-length, filledUp-none, filledUp-more, filledUp-all, filledUp}
-use mathlib.Core.Path.{_≡_, ap, _∙_}
+-- `outputs::skolem::template` meets its contract. The loop's invariant: the row has the numbers of the variables passed, and the next one's place
+-- is behind them. Assumes nothing.
+use mathlib.Core.Path.{_≡_, sym, ap, ap₂, _∙_}
+use mathlib.Core.Logic.{⊎-elim}
 use mathlib.Core.List.{List}
-use Prim.Native.Nat.{ℕ, _-_, _≤_}
+use Prim.Native.Nat.{ℕ, _+_, _-_, _≤_, _<_}
 use native.Mathlib.Omega.{arith}
+use lib.ListN.{length, set}
 use Rattle.facts.specs.Atoms.{valueOf}
+use Rattle.outputs.proofs.Variables.{elements-length, below, below-none, below-length, below-one, below-same, filledUp, filledUp-none, filledUp-more, filledUp-same, filledUp-all}
 use Rattle.outputs.proofs.skolem.template.Statement.{statement}
 use Rattle.outputs.proofs.skolem.template.Tie as tie
 
 abbrev Inv-loop : tie.InvT-loop
-Inv-loop frontier numbers row₀ v₀ row v = (v ≤ 8) × (row ≡ filledUp frontier (valueOf numbers) v)
+Inv-loop frontier numbers row₀ place₀ v₀ row place v = (v ≤ 8) × (row ≡ filledUp frontier (valueOf numbers) v) × (place ≡ 2 + length (below frontier v))
 
 abbrev μ-loop : tie.MeasureT-loop
-μ-loop frontier numbers row₀ v₀ row v = 8 - v
+μ-loop frontier numbers row₀ place₀ v₀ row place v = 8 - v
 
--- src/skolem.rt:56:14
-set-size-requires : tie.Need-set-size-requires Inv-loop μ-loop
-set-size-requires c κs = tt
-
--- src/skolem.rt:56:14
 cast-row : tie.Need-cast-row Inv-loop μ-loop
 cast-row c =
     let e = c .set-size .ensures in
     let b = elements-length (c .before .args .frontier) in
     record { fits = omega arith }
 
--- src/skolem.rt:56:5
-array-write-row : tie.Need-array-write-row Inv-loop μ-loop
-array-write-row c = omega arith
-
--- src/skolem.rt:58:5
 loop-holds : tie.Need-loop-holds Inv-loop μ-loop
 loop-holds c =
     let a = c .before .args in
-    (omega arith, rw (c .set-size .ensures) (filledUp-none (a .frontier) (valueOf (a .t2))))
+    (omega arith, rw (c .set-size .ensures) (filledUp-none (a .frontier) (valueOf (a .t2))), let e = ap length (below-none (a .frontier)) in omega arith)
 
--- src/skolem.rt:59:45
-cast-place-argument : tie.Need-cast-place-argument Inv-loop μ-loop
-cast-place-argument c = omega arith
+in-row : tie.Need-array-write-row-2 Inv-loop μ-loop
+in-row c =
+    let l = c .before .before .before in
+    let b = below-length (l .before .before .args .frontier) (l .loop .v) in
+    omega (arith, l .loop .inv .2)
 
--- src/skolem.rt:59:54
-mul-place-argument : tie.Need-mul-place-argument Inv-loop μ-loop
-mul-place-argument c = omega arith
-
--- src/skolem.rt:59:54
-array-read-place-argument : tie.Need-array-read-place-argument Inv-loop μ-loop
-array-read-place-argument c = omega arith
-
--- src/skolem.rt:59:15
-place-argument-requires : tie.Need-place-argument-requires Inv-loop μ-loop
-place-argument-requires c κs = omega arith
-
--- src/skolem.rt:60:9
-add-v : tie.Need-add-v Inv-loop μ-loop
-add-v c = omega arith
-
--- src/skolem.rt:58:5
-loop-less : tie.Need-loop-less Inv-loop μ-loop
-loop-less c = omega arith
-
--- src/skolem.rt:58:5
 loop-again : tie.Need-loop-again Inv-loop μ-loop
 loop-again c =
-    let l = c .before .before in
-    let a = c .before .before .before .before .args in (
+    let l = c .before .before .before in
+    let a = l .before .before .args in
+    let α : ℕ → ℕ = valueOf (a .t2) in
+    let told = c .before .contains .ensures in
+    let (h, row, place) = l .loop .inv in (
       omega arith,
-      c .place-argument .ensures
-          ∙ ap (λ (r : List ℕ). placed r (a .frontier) (l .loop .v) (valueOf (a .t2) (l .loop .v))) (l .loop .inv .1)
-          ∙ filledUp-more (a .frontier) (valueOf (a .t2)) (l .loop .v) (omega arith),
+      ⊎-elim
+          (λ w. w .1 ∙ ap₂ (λ (xs : List ℕ) (p : ℕ). set xs p (α (l .loop .v))) row place ∙ filledUp-more (a .frontier) α (l .loop .v) (omega arith) (sym told ∙ w .0 .taken))
+          (λ w. w .1 ∙ row ∙ filledUp-same (a .frontier) α (l .loop .v) (sym told ∙ w .0 .left)) (c .if1 .came),
+      ⊎-elim
+          (λ w. omega (arith, w .2, place, below-one (a .frontier) (l .loop .v) (sym told ∙ w .0 .taken)))
+          (λ w. omega (arith, w .2, place, below-same (a .frontier) (l .loop .v) (sym told ∙ w .0 .left))) (c .if1 .came),
     )
 
--- src/skolem.rt:52:1
 returns : tie.Need-returns Inv-loop μ-loop
 returns c =
     let l = c .before in
@@ -85,15 +63,18 @@ template-spec =
     (tie.spec
     Inv-loop
     μ-loop
-    set-size-requires
+    (λ c κs. tt)
     cast-row
-    array-write-row
+    (λ c. omega arith)
     loop-holds
-    cast-place-argument
-    mul-place-argument
-    array-read-place-argument
-    place-argument-requires
-    add-v
-    loop-less
+    (λ c. omega arith)
+    (λ c κs. omega arith)
+    (λ c. omega arith)
+    (λ c. omega arith)
+    (λ c. omega (arith, in-row c))
+    in-row
+    (λ c. omega (arith, in-row c))
+    (λ c. omega arith)
+    (λ c. omega arith)
     loop-again
     returns)
