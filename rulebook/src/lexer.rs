@@ -136,7 +136,7 @@ impl<'a> Lexer<'a> {
                 let expected = match run {
                     ":" | "<-" | "←" => "`:-` between head and body",
                     "->" | "→" => "the head first, then `:-` and the body",
-                    "∨" | ";" | "\\/" => "`|` between alternatives",
+                    "∨" | ";" | "\\/" => "`|` between alternatives, `,` between atoms",
                     "∧" | "&" | "/\\" => "`,` between atoms",
                     "∃" => "`!` before a new variable, as in `!y`",
                     "~" | "¬" => "an atom; a book has no negation",

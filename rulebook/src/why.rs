@@ -265,7 +265,7 @@ fn large(compiled: &Compiled, again: &Again, out: &mut String) {
         }
         End::TestTooLarge(trigger, counts) => {
             out.push_str(
-                "What must hold wherever one match holds (its closed set) has more than 1,024 facts, by then:\n",
+                "What must hold wherever one match holds, its closed set, passes 1,024 facts. By then it has, by predicate:\n",
             );
             largest(counts, |predicate| names.predicate(predicate).to_string(), out);
             matched(compiled, &speller, trigger, out);
