@@ -103,6 +103,10 @@ pub fn legend(compiled: &Compiled, functions: &[Function], out: &mut String) {
     }
 }
 
+/// Of which fillings the library says that they end.
+const FILLED: &str =
+    "(Filled so that Datalog rules go first, and no rule steps where one of its alternatives holds already.)\n";
+
 pub fn words(compiled: &Compiled, judged: &Judged, facts: bool) -> String {
     let file = &compiled.names.file;
     let mut out = String::new();
@@ -112,7 +116,7 @@ pub fn words(compiled: &Compiled, judged: &Judged, facts: bool) -> String {
         Verdict::Accepted { stage, facts, terms } => {
             _ = writeln!(out, "{file}: accepted");
             out.push_str("Every archive that is filled by these rules comes to an end.\n");
-            out.push_str("(Filled so that Datalog rules go first, and no rule steps where one of its alternatives holds already.)\n");
+            out.push_str(FILLED);
             let (facts, terms) = (counted(facts, "fact"), counted(terms, "term"));
             _ = writeln!(out, "DMFA at depth {depth}: stage {stage} is the last, with {facts} and {terms}.");
         }
@@ -123,7 +127,11 @@ pub fn words(compiled: &Compiled, judged: &Judged, facts: bool) -> String {
             );
             out.push_str("same rule made. It does not say that filling never ends; it may end all the same.\n");
             let (facts, terms) = (counted(facts, "fact"), counted(terms, "term"));
-            _ = writeln!(out, "DMFA at depth {depth}: the last stage made is {}, with {facts} and {terms}.", stage - 1);
+            _ = writeln!(
+                out,
+                "DMFA at depth {depth}: the last stage made is {}, with {facts} and {terms}.",
+                stage.saturating_sub(1)
+            );
             if let Some(term) = &judged.shown {
                 let function = speller.function(term);
                 let number = speller.push(term.clone());

@@ -4,11 +4,11 @@
 //! by a second run (`again`), and told only where that run came to the library's own end.
 
 use crate::again::{self, Again, End, Origin, Trigger};
-use crate::book::{Book, Function};
+use crate::book::{Book, Function, Rule};
 use crate::compile::Compiled;
 use crate::facts::{row, Row, FREE};
 use crate::show;
-use crate::terms::{Fact, Speller, Term};
+use crate::terms::{Fact, Listing, Speller, Term};
 use crate::verdict::{counted, figure, legend, refused, Judged};
 use rulfjen::{Refusal, Verdict};
 use std::fmt::Write;
@@ -86,9 +86,8 @@ pub fn run_again(compiled: &Compiled, judged: &Judged) -> Option<Again> {
 }
 
 fn same_tables(compiled: &Compiled, judged: &Judged, again: &Again) -> bool {
-    let fact = |row: &Row| fact_of(&compiled.book, row);
-    judged.listing.terms == again.terms
-        && judged.listing.facts.iter().eq(again.facts.rows.iter().map(fact).collect::<Vec<_>>().iter())
+    let facts = again.facts.rows.iter().map(|row| fact_of(&compiled.book, row)).collect();
+    judged.listing == Listing { terms: again.terms.clone(), facts }
 }
 
 fn fact_of(book: &Book, row: &Row) -> Fact {
@@ -169,6 +168,8 @@ pub fn source_of(compiled: &Compiled, rule: usize, disjunct: usize) -> String {
     }
 }
 
+const BETWEEN: &str =
+    "(Terms and levels are the library's; what lies between two levels was found by a run that is not proved.)\n";
 const SECOND_RUN: &str = "(What follows was found by a second run that is not proved; the verdict is the library's.)\n";
 
 fn cyclic(compiled: &Compiled, judged: &Judged, stage: usize, out: &mut String) {
@@ -180,8 +181,9 @@ fn cyclic(compiled: &Compiled, judged: &Judged, stage: usize, out: &mut String) 
     );
     let Some(story) = story(compiled, judged) else { return };
     let speller = Speller::new(book, names, &story.terms);
-    if story.carried {
-        out.push_str("(Terms and levels are the library's; what lies between two levels was found by a run that is not proved.)\n");
+    match story.carried {
+        true => out.push_str(BETWEEN),
+        false => _ = writeln!(out, "(What lies between two levels {NOT_FOUND}.)"),
     }
     out.push_str("From the inside out, ⋆ being any name of the archive:\n");
     for (place, level) in story.levels.iter().enumerate() {
@@ -264,9 +266,8 @@ fn large(compiled: &Compiled, again: &Again, out: &mut String) {
             matched(compiled, &speller, trigger, out);
         }
         End::TestTooLarge(trigger, counts) => {
-            out.push_str(
-                "What must hold wherever one match holds, its closed set, passes 1,024 facts. By then it has, by predicate:\n",
-            );
+            out.push_str("What must hold wherever one match holds, its closed set, passes 1,024 facts.\n");
+            out.push_str("By then it has, by predicate:\n");
             largest(counts, |predicate| names.predicate(predicate).to_string(), out);
             matched(compiled, &speller, trigger, out);
         }
@@ -298,16 +299,16 @@ fn large(compiled: &Compiled, again: &Again, out: &mut String) {
     }
 }
 
-/// What can be said of a refusal without a second run.
+const NOT_FOUND: &str = "was not found: a second run would take too long, or came to another end";
+
+/// What can be said of a refusal without a second run: the rules that the limit is about, where they are not all.
 fn concerned(compiled: &Compiled, number: u8, out: &mut String) {
     let Compiled { book, names, .. } = compiled;
-    out.push_str("To find what was large would take too long here. ");
-    let (says, concerned): (&str, fn(&crate::book::Rule) -> bool) = match number {
-        11 | 12 => ("Divided rules, whose matches are tested:", |rule| rule.is_blockable()),
-        13 => {
-            ("Rules that bring together three atoms or more, and so may make many facts:", |rule| rule.body.len() > 2)
-        }
-        _ => ("Rules with new variables:", |rule| (0..rule.disjuncts.len()).any(|d| !rule.existential(d).is_empty())),
+    _ = writeln!(out, "What was large {NOT_FOUND}.");
+    let (says, concerned): (&str, fn(&Rule) -> bool) = match number {
+        11 | 12 => ("Divided rules, whose matches are tested:", Rule::is_blockable),
+        14 => ("Rules with new variables:", |rule| (0..rule.disjuncts.len()).any(|d| !rule.existential(d).is_empty())),
+        _ => return,
     };
     _ = writeln!(out, "{says}");
     for rule in (0..book.rules.len()).filter(|&rule| concerned(&book.rules[rule])) {
@@ -320,9 +321,7 @@ pub fn words(compiled: &Compiled, judged: &Judged) -> String {
     match judged.verdict {
         Verdict::Accepted { .. } => {
             _ = writeln!(out, "{}: accepted", compiled.names.file);
-            out.push_str(
-                "Every archive that is filled by these rules comes to an end: there is no cyclic term to tell of.\n",
-            );
+            out.push_str("Every archive that is filled by these rules comes to an end: no term is cyclic.\n");
         }
         Verdict::Cyclic { stage, .. } => cyclic(compiled, judged, stage, &mut out),
         Verdict::Refused(refusal @ Refusal { number, .. }) => {

@@ -103,3 +103,16 @@ fn a_reader_that_leaves_is_no_fault() {
     let ended = Command::new("sh").args(["-c", &command]).current_dir(folder()).output().expect("a shell");
     assert!(ended.stderr.is_empty(), "{}", String::from_utf8_lossy(&ended.stderr));
 }
+
+#[test]
+fn the_readme_begins_with_river() {
+    let river = std::fs::read_to_string(folder().join("examples/river.rules")).expect("an example");
+    assert_eq!(river.lines().count(), 4);
+    let indented = |text: &str| text.lines().map(|line| format!("    {line}\n")).collect::<String>();
+    let read = |file: &str| std::fs::read_to_string(folder().join(file)).expect("a README");
+    assert!(read("README.md").starts_with(&format!("# rulebook\n\n{}", indented(&river))));
+    assert!(read("../README.md").contains(&indented(&river)));
+    let says = run(&["check", "examples/river.rules"], b"").stdout;
+    let says = String::from_utf8(says).expect("UTF-8").replace("examples/", "rulebook/examples/");
+    assert!(read("README.md").contains(&indented(&says)));
+}
