@@ -1,7 +1,6 @@
 -- Bounds of the sizes of terms, and rules that have too few variables for a large trigger. Assumes nothing.
 use mathlib.Core.Path.{_≡_, refl, sym, ap, _∙_, subst}
-use mathlib.Core.Bool.{false, _&&_}
-use mathlib.Core.Logic.{_⊎_, inl, inr}
+use mathlib.Core.Bool.{false}
 use mathlib.Core.List.{List, [], _∷_, List·Memᴰ, List·Memᴰ·head, List·Memᴰ·tail}
 use Prim.Native.Nat.{ℕ, suc, min, _+_, _*_, _≤_, _<_}
 use native.Mathlib.Nat.{mul-suc}
@@ -11,8 +10,7 @@ use lib.Dec.{ltb}
 use lib.ListN.{length, getD, set, drop}
 use lib.Seq.{getD-set-same, getD-set-other}
 use borrow.Author.Tests.{le-ltb, ltb-false}
-use Rattle.model.specs.Rules.{Rule, universal, blockable}
-use Rattle.laws.proofs.Bools.{and-false}
+use Rattle.model.specs.Rules.{Rule, universal}
 use Rattle.laws.proofs.Lists.{false-any}
 use Rattle.rows.specs.Triggers.{triggersAt}
 use Rattle.tables.specs.Rows.{rows}
@@ -27,7 +25,7 @@ use Rattle.stage_large.specs.Stage.{Tabled, tables}
 use Rattle.stage_output.proofs.Flat.{total-agree, sizeIn-is}
 use Rattle.rows.proofs.Triggers.{trigger-below}
 use Rattle.stage_large.proofs.Triggers.{trigger-length}
-use Rattle.stage_large.proofs.Sizes.{largeOver, largeRule, no-large, not-blockable}
+use Rattle.stage_large.proofs.Sizes.{largeOver, largeRule, no-large}
 
 -- the bounds of the arguments from the j-th on
 
@@ -84,9 +82,11 @@ bounds-with {n} {t} o bounds i most more bound h l e a b before k below = go (�
         (omega arith, omega arith)
 
 module _ (form terms : List ℕ) (n : ℕ) (facts : List ℕ) (m : ℕ) (h : Tabled form terms n facts m) (most : ℕ) (bounding : Bounding terms n most) (r : Rule) where
-  few-not-large : most * length (elements (setOf (universal r))) ≤ 64 → largeRule (tables terms n facts m) r ≡ false
+  -- a rule with too few variables has no large trigger
+  pub bounded-not-large : ltb 64 (most * length (elements (setOf (universal r)))) ≡ false → largeRule (tables terms n facts m) r ≡ false
   unfolding tables largeOver
-  few-not-large few =
+  bounded-not-large under =
+      let few = ltb-false 64 (most * length (elements (setOf (universal r)))) under in
       no-large (tables terms n facts m) r
       (false-any (largeOver (tables terms n facts m)) (triggersAt r (length (rows 10 n terms)) (rows 5 m facts))
       (λ ms k.
@@ -97,11 +97,3 @@ module _ (form terms : List ℕ) (n : ℕ) (facts : List ℕ) (m : ℕ) (h : Tab
       let f : most * length ms ≤ 64 = subst (λ (z : ℕ). most * z ≤ 64) (sym q) few in
       let b = total-times (sizeAt terms) most ms (λ x i. bounding .1 x (let l = trigger-below r (length (rows 10 n terms)) (rows 5 m facts) k x i in omega arith)) f in
       le-ltb 64 (totalIn (sizeIn (length (rows 10 n terms)) (rows 10 n terms)) ms) (omega arith)))
-
-  -- a rule that is not blockable, or has too few variables, has no large trigger
-  pub bounded-not-large : blockable r && ltb 64 (most * length (elements (setOf (universal r)))) ≡ false → largeRule (tables terms n facts m) r ≡ false
-  bounded-not-large e = go (and-false (blockable r) (ltb 64 (most * length (elements (setOf (universal r))))) e)
-    where
-      go : (blockable r ≡ false) ⊎ (ltb 64 (most * length (elements (setOf (universal r)))) ≡ false) → largeRule (tables terms n facts m) r ≡ false
-      go (inl b) = not-blockable (tables terms n facts m) r b
-      go (inr l) = few-not-large (ltb-false 64 (most * length (elements (setOf (universal r)))) l)

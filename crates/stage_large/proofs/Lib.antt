@@ -3,6 +3,7 @@ pub mod Handled
 pub mod NothingNew
 pub mod Oversize
 pub mod Places
+pub mod Question
 pub mod Sizes
 pub mod Steps
 pub mod Triggers

@@ -1,6 +1,6 @@
 -- A search of a rule's unhandled triggers meets a large one where the rule has one: the handled ones are not too large. Assumes nothing.
 use mathlib.Core.Path.{_≡_, refl, sym, ap, _∙_, subst}
-use mathlib.Core.Bool.{Bool, true, false, not, _||_}
+use mathlib.Core.Bool.{Bool, true, false, not, _&&_, _||_}
 use mathlib.Core.Logic.{_⊎_, inl, inr}
 use mathlib.Core.List.{List, [], _∷_, List·Memᴰ, List·Memᴰ·head, List·Memᴰ·tail}
 use Prim.Native.Nat.{ℕ, _≤_, _<_}
@@ -8,7 +8,7 @@ use lib.ListN.{length, replicate}
 use borrow.Author.Tests.{not-false}
 use Rattle.model.specs.Lists.{any, keep}
 use Rattle.model.specs.Rules.{Rule, universal, blockable}
-use Rattle.laws.proofs.Bools.{case}
+use Rattle.laws.proofs.Bools.{case, and-false}
 use Rattle.laws.proofs.Lists.{keep-yes, keep-no, map-mem}
 use Rattle.rows.specs.Triggers.{triggersAt, spread}
 use Rattle.tables.specs.Rows.{rows}
@@ -67,8 +67,7 @@ module _ (form terms : List ℕ) (n : ℕ) (facts : List ℕ) (m old depth : ℕ
       (triggersFrom (bodyOf (r .body)) facts m n (replicate 8 0)) (λ xs k e. handled-small b xs k (not-false (holdsRow (bodyOf (r .body)) facts old xs) e))
       ∙ any-large-is form terms n facts m h i l
 
-  -- a rule that nothing is new for has no large trigger
-  pub idle-not-large : idle r facts m old ≡ true → largeRule (tables terms n facts m) r ≡ false
+  idle-not-large : idle r facts m old ≡ true → largeRule (tables terms n facts m) r ≡ false
   unfolding any
   idle-not-large nothing = go (case (blockable r))
     where
@@ -77,6 +76,14 @@ module _ (form terms : List ℕ) (n : ℕ) (facts : List ℕ) (m old depth : ℕ
           no-large (tables terms n facts m) r
           (sym (unhandled-large b) ∙ ap (any (large terms (setOf (universal r)))) (idle-unhandled form (h .held) i l facts m old nothing n (replicate 8 0)))
       go (inr b) = not-blockable (tables terms n facts m) r b
+
+  -- a rule that is not blockable, or that nothing is new for, has no large trigger
+  pub no-question : blockable r && not (idle r facts m old) ≡ false → largeRule (tables terms n facts m) r ≡ false
+  no-question e = go (and-false (blockable r) (not (idle r facts m old)) e)
+    where
+      go : (blockable r ≡ false) ⊎ (not (idle r facts m old) ≡ false) → largeRule (tables terms n facts m) r ≡ false
+      go (inl b) = not-blockable (tables terms n facts m) r b
+      go (inr b) = idle-not-large (not-false (idle r facts m old) b)
 
   -- a body as it comes out of the form, number by number
   module _ (atoms : List (List ℕ)) (arities : List ℕ) (count set : ℕ) (p : atoms ≡ atomRows (r .body)) (q : arities ≡ atomArities (r .body)) (c : count ≡ length (r .body))

@@ -1,12 +1,13 @@
--- Triggers with more than 64 places, as the search gives them: by assignments of all variables, and the set of the body's. Assumes nothing.
+-- Triggers with more than 64 places, as the search gives them: by assignments of all variables, and the set of the body's; and the rules
+-- that are searched for them. Assumes nothing.
 use mathlib.Core.Path.{_≡_}
 use mathlib.Core.List.{List, map, List·Memᴰ}
-use mathlib.Core.Bool.{Bool, true, false}
+use mathlib.Core.Bool.{Bool, true, false, not, _&&_}
 use Prim.Native.Nat.{ℕ, min, _≤_, _<_}
 use lib.Dec.{ltb}
 use lib.ListN.{length, getD}
 use Rattle.model.specs.Limits.{placeLimit}
-use Rattle.model.specs.Rules.{blockable}
+use Rattle.model.specs.Rules.{Rule, blockable}
 use Rattle.rows.specs.Judging.{total as sum, sizeIn}
 use Rattle.rows.specs.Making.{Left, handled}
 use Rattle.tables.specs.Terms.{Ordered, total, sizeAt}
@@ -16,6 +17,7 @@ use Rattle.new_triggers.specs.Unhandled.{Apart}
 use Rattle.form.specs.Places.{rulesOf, ruleOf}
 use Rattle.form_variables.specs.Sets.{elements}
 use Rattle.stage_large.specs.Stage.{triggersOf}
+use Rattle.stage_large.specs.Idle.{idle}
 use Rattle.stage_large.specs.declared.counts.Counts.{Counts}
 use Rattle.laws.specs.Lists.{Distinct}
 
@@ -49,3 +51,14 @@ pub record Sought (b : Body) (terms facts : List ℕ) (n : Counts) (index sizes 
   pub indexed : Indexed facts (n .facts) index
   pub apart : Apart b facts (n .facts) (n .old)
   pub measured : Measured terms sizes
+
+-- a rule is in question: it is blockable, and the stage has something new for it
+abbrev pub inQuestion : Rule → List ℕ → Counts → Bool
+inQuestion r facts n = blockable r && not (idle r facts (n .facts) (n .old))
+
+-- the first rule in question from one on, or the count of rules
+pub record NextInQuestion (form facts : List ℕ) (n : Counts) (from r : ℕ) : Type 0 where
+  pub onward : from ≤ r
+  pub within : r ≤ length (rulesOf form)
+  pub passed : (k : ℕ) → from ≤ k → k < r → inQuestion (ruleOf form k) facts n ≡ false
+  pub found : r < length (rulesOf form) → inQuestion (ruleOf form r) facts n ≡ true

@@ -1,22 +1,19 @@
 -- `stage_large::large::can_be_large` meets its contract: a set has at most eight variables. Assumes nothing.
-use mathlib.Core.Path.{sym, ap, _∙_}
-use mathlib.Core.Bool.{Bool, _&&_}
+use mathlib.Core.Path.{ap, _∙_}
 use Prim.Native.Nat.{ℕ, _*_, _≤_}
 use native.Mathlib.Nat.{mul-le-mul-left}
 use native.Mathlib.Omega.{arith}
 use lib.Dec.{ltb}
 use lib.ListN.{length}
 use borrow.Author.Needs.{needs}
-use Rattle.model.specs.Rules.{universal}
-use Rattle.form.specs.Places.{ruleOf}
-use Rattle.form_variables.specs.Sets.{setOf, elements}
+use Rattle.form_variables.specs.Sets.{elements}
 use Rattle.outputs.proofs.Variables.{elements-length}
 use Rattle.stage_large.proofs.large.can_be_large.Statement.{statement}
 use Rattle.stage_large.proofs.large.can_be_large.Tie as tie
 
 mul-result : tie.Need-mul-result
 mul-result c =
-    let s = c .before .before .before .before .before in
+    let s = c .before .before .before in
     let e = elements-length (c .before .body-set .result) in
     let f : c .set-size .result ≤ 8 = omega (arith, c .set-size .ensures, e) in
     let m = mul-le-mul-left (s .args .most) f in
@@ -24,25 +21,8 @@ mul-result c =
 
 returns : tie.Need-returns
 returns c =
-    let s = c .before .before .before .before .before in
-    let k = sym (c .before .before .before .is-blockable .ensures) ∙ c .before .before .if1 .taken in
-    let few = c .set-size .ensures ∙ ap (λ (x : ℕ). length (elements x)) (c .before .body-set .ensures) in
-    ap (λ (x : ℕ). ltb 64 (s .args .most * x)) few
-    ∙ ap (λ (b : Bool). b && ltb 64 (s .args .most * length (elements (setOf (universal (ruleOf (s .args .form .now) (s .args .i))))))) (sym k)
-
-returns-2 : tie.Need-returns-2
-returns-2 c =
     let s = c .before .before .before in
-    let k = sym (c .before .is-blockable .ensures) ∙ c .if1 .left in
-    ap (λ (b : Bool). b && ltb 64 (s .args .most * length (elements (setOf (universal (ruleOf (s .args .form .now) (s .args .i))))))) (sym k)
+    ap (λ (x : ℕ). ltb 64 (s .args .most * x)) (c .set-size .ensures ∙ ap (λ (x : ℕ). length (elements x)) (c .before .body-set .ensures))
 
 pub can-be-large-spec : {M : Type 1} → statement M
-can-be-large-spec =
-    tie.close
-    (tie.spec
-    (λ c κs. search needs)
-    (λ c κs. search needs)
-    (λ c κs. search needs)
-    mul-result
-    returns
-    returns-2)
+can-be-large-spec = tie.close (tie.spec (λ c κs. search needs) (λ c κs. search needs) mul-result returns)
