@@ -10,6 +10,8 @@ fn main() {
     println!("cargo:rerun-if-changed={}", folder.join("libembed.a").display());
     println!("cargo:rustc-link-search=native={}", folder.display());
     println!("cargo:rustc-link-lib=static=embed");
-    println!("cargo:rerun-if-changed={}", folder.join("libembed_columns.a").display());
-    println!("cargo:rustc-link-lib=static=embed_columns");
+    if std::env::var_os("CARGO_FEATURE_COLUMNS").is_some() {
+        println!("cargo:rerun-if-changed={}", folder.join("libembed_columns.a").display());
+        println!("cargo:rustc-link-lib=static=embed_columns");
+    }
 }

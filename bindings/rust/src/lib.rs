@@ -5,6 +5,7 @@
 //! the pointers and lengths of slices. Rust sees to it that these are right and that no two lists overlap. Functions at the
 //! root take lists of the lengths that are asked for; those of `lists` take any slices, and a short one is refusal 1.
 
+#[cfg(feature = "columns")]
 pub mod columns;
 
 /// Numbers in the terms of an answer: 513 records of ten.
