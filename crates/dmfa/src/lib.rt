@@ -39,8 +39,8 @@ const SMALL_ROOM: usize = 13200;
 
 const LARGE_ROOM: usize = 105264;
 
-// Room for 2,049 facts, all that can be made of a stage; behind them a link for each, and 4,096 buckets.
-const FACTS_ROOM: usize = 16390;
+// Room for 2,049 facts, all that can be made of a stage; behind them a link for each, and 1,024 buckets.
+const FACTS_ROOM: usize = 13318;
 
 // A form, and how many Skolem functions come before each of 64 times four disjuncts.
 const FORM_LENGTH: usize = 6850;

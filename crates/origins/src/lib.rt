@@ -108,7 +108,7 @@ fn enter_origin(
     let atoms = form::atoms::body(form, i);
     let arities = form::atoms::body_arities(form, i);
     let count = form::counts::body_count(form, i);
-    let entered = facts::enter_facts(atoms, arities, count, names, &mut *facts, m, limit);
+    let entered = facts::enter_facts(&atoms, &arities, count, &names, &mut *facts, m, limit);
     disjuncts::enter_disjunct(
         form,
         before,

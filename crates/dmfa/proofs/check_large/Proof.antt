@@ -10,7 +10,7 @@ use Rattle.dmfa.proofs.check_large.Statement.{statement}
 use Rattle.dmfa.proofs.check_large.Tie as tie
 
 check-by-requires : tie.Need-check-by-requires
-check-by-requires c κs = let s = c .before .before .before .before .before .before .before .before in (s .pre, kept-terms-none 105264 (omega arith), kept-none 16390 2049 (omega arith) (omega arith))
+check-by-requires c κs = let s = c .before .before .before .before .before .before .before .before in (s .pre, kept-terms-none 105264 (omega arith), kept-none 13318 2049 (omega arith) (omega arith))
 
 returns : tie.Need-returns
 returns c =

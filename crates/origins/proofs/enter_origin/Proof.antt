@@ -39,19 +39,21 @@ add-constants-requires c κs =
 
 enter-facts-requires : tie.Need-enter-facts-requires
 enter-facts-requires c κs =
-    let s = c .before .before .before .before .before .before .before .before .before .before .before .before .before .before .before .before .before in
+    let b = c .before .before .before .before in
+    let s = b .before .before .before .before .before .before .before .before .before .before .before .before .before .before .before .before in
     let r = s .pre .0 .entry .rule in
-    (rw (c .before .before .before .body .ensures, c .before .before .body-arities .ensures, c .before .body-count .ensures) (atoms-sound (r .held) (rule-well-formed (s .args .form .now) (r .held) (s .args .i) (r .within) .body)), s .pre .3 .kept)
+    (rw (b .before .before .body .ensures, b .before .body-arities .ensures, b .body-count .ensures) (atoms-sound (r .held) (rule-well-formed (s .args .form .now) (r .held) (s .args .i) (r .within) .body)), s .pre .3 .kept)
 
 enter-disjunct-requires : tie.Need-enter-disjunct-requires
 enter-disjunct-requires c κs =
     let f = c .before .before .before .before in
-    let k = f .before .before .before .before .before .before .before in
+    let b = f .before .before .before .before .before in
+    let k = b .before .before .before .before .before in
     let o = k .before .before .before .before .before in
     let s = o .before .before .before .before .before .before in
     let a = s .args in
     let entered =
-    origin-entered (s .pre .0) (a .limit) (argumentsIn (row 10 (a .j) (a .table .now))) (held (a .table .now) (a .n) (a .facts .now) (a .m)) (rows-length 10 (a .n) (a .table .now)) (o .frontier-set .ensures) (o .before .others-set .ensures) (k .before .set-size .ensures) (k .before .before .before .origin-numbers .result) (k .before .before .before .origin-numbers .ensures) (f .before .before .before .before .body .ensures) (f .before .before .before .body-arities .ensures) (f .before .before .body-count .ensures) (k .add-constants .ensures .rows) (f .enter-facts .ensures .0) in (
+    origin-entered (s .pre .0) (a .limit) (argumentsIn (row 10 (a .j) (a .table .now))) (held (a .table .now) (a .n) (a .facts .now) (a .m)) (rows-length 10 (a .n) (a .table .now)) (o .frontier-set .ensures) (o .before .others-set .ensures) (k .before .set-size .ensures) (k .before .before .before .origin-numbers .result) (k .before .before .before .origin-numbers .ensures) (b .before .before .body .ensures) (b .before .body-arities .ensures) (b .body-count .ensures) (k .add-constants .ensures .rows) (f .enter-facts .ensures .0) in (
       s .pre .0,
       record {
         room = record {
@@ -66,12 +68,13 @@ returns : tie.Need-returns
 returns c =
     let e = c .before .before .before .before in
     let f = e .before .before .before .before .before in
-    let k = f .before .before .before .before .before .before .before in
+    let b = f .before .before .before .before .before in
+    let k = b .before .before .before .before .before in
     let o = k .before .before .before .before .before in
     let s = o .before .before .before .before .before .before in
     let a = s .args in
     let entered =
-    origin-entered (s .pre .0) (a .limit) (argumentsIn (row 10 (a .j) (a .table .now))) (held (a .table .now) (a .n) (a .facts .now) (a .m)) (rows-length 10 (a .n) (a .table .now)) (o .frontier-set .ensures) (o .before .others-set .ensures) (k .before .set-size .ensures) (k .before .before .before .origin-numbers .result) (k .before .before .before .origin-numbers .ensures) (f .before .before .before .before .body .ensures) (f .before .before .before .body-arities .ensures) (f .before .before .body-count .ensures) (k .add-constants .ensures .rows) (f .enter-facts .ensures .0) in
+    origin-entered (s .pre .0) (a .limit) (argumentsIn (row 10 (a .j) (a .table .now))) (held (a .table .now) (a .n) (a .facts .now) (a .m)) (rows-length 10 (a .n) (a .table .now)) (o .frontier-set .ensures) (o .before .others-set .ensures) (k .before .set-size .ensures) (k .before .before .before .origin-numbers .result) (k .before .before .before .origin-numbers .ensures) (b .before .before .body .ensures) (b .before .body-arities .ensures) (b .body-count .ensures) (k .add-constants .ensures .rows) (f .enter-facts .ensures .0) in
     record { rows = e .enter-disjunct .ensures .rows ∙ entered; found = e .enter-disjunct .ensures .found; kept = e .enter-disjunct .ensures .kept }
 
 pub enter-origin-spec : {M : Type 1} → statement M
