@@ -13,10 +13,8 @@ use Rattle.laws_triggers.specs.Next.{after}
 use Rattle.triggers.specs.declared.Plan.{Plan}
 use Rattle.cursor.specs.Plan.{bodyOf, EveryMatters}
 use Rattle.new_triggers.specs.declared.Extent.{Extent}
-use Rattle.new_triggers.specs.declared.Cursor.{Cursor}
-use Rattle.new_triggers.specs.declared.Step.{Step}
 use Rattle.new_triggers.specs.Unhandled.{unhandledFrom, NextUnhandled}
-use Rattle.new_triggers.specs.Walk.{Walked, Steps}
+use Rattle.new_triggers.specs.Walk.{Cursor, Stepped, Walked, Steps}
 use Rattle.new_triggers.proofs.Every.{every-next}
 use Rattle.stage_large.specs.Large.{placesOf, large}
 
@@ -41,7 +39,7 @@ pub record Seeking (body : List (List ℕ)) (plan : Plan) (over : Extent) (facts
   pub decides : all ≡ any p (unhandledFrom (bodyOf body plan) facts (over .facts) (over .old) (over .terms) start)
 
 module _ {body : List (List ℕ)} {plan : Plan} {over : Extent} {facts : List ℕ} {p : List ℕ → Bool} {all : Bool} {c : Cursor} (s : Seeking body plan over facts p all c)
-    (every : EveryMatters body plan) {r : Step} (steps : Steps body plan over c facts r) where
+    (every : EveryMatters body plan) {r : Stepped} (steps : Steps body plan over c facts r) where
   next : NextUnhandled (bodyOf body plan) facts (over .facts) (over .old) (over .terms) (s .start) (r .found) (r .trigger)
   next = every-next (s .walked) every (steps .next (s .given) (s .start) (s .walked))
 

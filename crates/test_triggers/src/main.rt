@@ -40,16 +40,35 @@ fn print_triggers(
         old: 0,
         terms,
     };
-    let mut at = new_triggers::begin(body, plan, over, facts, &index);
+    let mut triggers = [[0u16; 8]; 4];
+    let mut conflicts = [[0u8; 8]; 4];
+    let mut live = [false; 4];
+    new_triggers::begin(
+        body,
+        plan,
+        over,
+        &mut triggers,
+        &mut conflicts,
+        &mut live,
+        facts,
+        &index,
+    );
     loop {
-        let step = new_triggers::next(body, plan, over, at, facts, &index);
+        let step = new_triggers::next(
+            body,
+            plan,
+            over,
+            &mut triggers,
+            &mut conflicts,
+            &mut live,
+            facts,
+            &index,
+        );
         if !step.found {
             return;
         }
         let trigger = step.trigger;
         print_assignment(trigger);
-        let behind = step.cursor;
-        at = behind;
     }
 }
 

@@ -1,5 +1,5 @@
 -- `test_triggers::print_triggers` is safe and ends: less is ahead each turn. Assumes nothing.
-use mathlib.Core.Path.{sym, subst}
+use mathlib.Core.Path.{refl, sym, subst}
 use mathlib.Core.List.{[], _∷_}
 use native.Mathlib.Omega.{arith}
 use lib.ListN.{replicate}
@@ -10,16 +10,16 @@ use Rattle.laws_triggers.specs.Next.{after}
 use Rattle.fact_index.proofs.Entering.{indexed-zeros}
 use Rattle.cursor.specs.Plan.{bodyOf}
 use Rattle.cursor.proofs.Plans.{planned-body}
-use Rattle.new_triggers.specs.Walk.{Walks, aheadIn}
+use Rattle.new_triggers.specs.Walk.{Walks, cursorOf, aheadIn}
 use Rattle.test_triggers.proofs.Cases.{case-searchable}
 use Rattle.test_triggers.proofs.print_triggers.Statement.{statement}
 use Rattle.test_triggers.proofs.print_triggers.Tie as tie
 
 abbrev Inv-loop : tie.InvT-loop
-Inv-loop body atoms facts count terms index plan over at₀ at = Walks body plan over at facts index
+Inv-loop body atoms facts count terms index plan over triggers₀ conflicts₀ live₀ triggers conflicts live = Walks body plan over triggers conflicts live facts index
 
 abbrev μ-loop : tie.MeasureT-loop
-μ-loop body atoms facts count terms index plan over at₀ at = aheadIn (over .terms) (at .streams)
+μ-loop body atoms facts count terms index plan over triggers₀ conflicts₀ live₀ triggers conflicts live = aheadIn (over .terms) (cursorOf (plan .matters) triggers conflicts live .streams)
 
 extend-requires : tie.Need-extend-requires Inv-loop μ-loop
 extend-requires c κs =
@@ -34,44 +34,47 @@ searchable p =
     subst (λ (b : Body). Searchable b (s .args .facts .now) (s .args .count) (s .args .terms)) (sym (planned-body (p .plan-of-all .ensures))) (case-searchable (s .pre))
 
 begin-requires : tie.Need-begin-requires Inv-loop μ-loop
-begin-requires c κs =
-    record {
-      searchable = searchable (c .before);
-      planned = c .before .plan-of-all .ensures .planned;
-      indexed = c .before .before .before .extend .ensures .0;
-      apart = λ i h xs f g l. absurd (omega arith);
-    }
+begin-requires c κs = (
+  record {
+    searchable = searchable (c .before .before .before .before);
+    planned = c .before .before .before .before .plan-of-all .ensures .planned;
+    indexed = c .before .before .before .before .before .before .extend .ensures .0;
+    apart = λ i h xs f g l. absurd (omega arith);
+  },
+  record { triggers = refl; conflicts = refl; live = refl },
+)
 
 loop-holds : tie.Need-loop-holds Inv-loop μ-loop
 loop-holds c =
     record {
-      searchable = searchable (c .before .before);
-      planned = c .before .before .plan-of-all .ensures .planned;
-      indexed = c .before .before .before .before .extend .ensures .0;
+      searchable = searchable (c .before .before .before .before .before);
+      planned = c .before .before .before .before .before .plan-of-all .ensures .planned;
+      indexed = c .before .before .before .before .before .before .before .extend .ensures .0;
       given = [];
       start = replicate 8 0;
-      walked = c .begin .ensures;
+      walking = c .begin .ensures;
     }
-
-next-requires : tie.Need-next-requires Inv-loop μ-loop
-next-requires c κs = c .before .loop .inv
 
 loop-less : tie.Need-loop-less Inv-loop μ-loop
 loop-less c =
-    let step = c .before .before .before .before .before .next in
-    step .ensures .fewer (not-false (step .result .found) (c .before .before .before .if1 .left))
+    let step = c .before .before .before .before .next in
+    step .ensures .steps .fewer (not-false (step .result .found) (c .before .before .if1 .left))
 
 loop-again : tie.Need-loop-again Inv-loop μ-loop
 loop-again c =
-    let step = c .before .before .before .before .before .next in
-    let w = c .before .before .before .before .before .before .before .loop .inv in
+    let step = c .before .before .before .before .next in
+    let w = c .before .before .before .before .before .before .before .before .before .loop .inv in
     record {
       searchable = w .searchable;
       planned = w .planned;
       indexed = w .indexed;
       given = step .result .trigger ∷ w .given;
       start = after (step .result .trigger);
-      walked = step .ensures .onward (not-false (step .result .found) (c .before .before .before .if1 .left)) (w .given) (w .start) (w .walked);
+      walking =
+          record {
+            four = step .ensures .four;
+            walked = step .ensures .steps .onward (not-false (step .result .found) (c .before .before .if1 .left)) (w .given) (w .start) (w .walking .walked);
+          };
     }
 
 pub print-triggers-spec : {M : Type 1} → statement M
@@ -87,7 +90,7 @@ print-triggers-spec =
     begin-requires
     loop-holds
     (λ c. search needs)
-    next-requires
+    (λ c κs. c .before .before .before .before .loop .inv)
     (λ c. tt)
     (λ c κs. tt)
     loop-less
