@@ -105,6 +105,21 @@ fn predicates(count: usize) -> Draft {
     draft
 }
 
+/// L(x,y) ∧ L(y,z) → L′(x,z) from predicate to predicate, over the pairs of five terms: each rule uses two of `count`
+/// predicates, and the facts of all the others stand beside theirs.
+fn joins(count: usize) -> Draft {
+    let mut draft = Draft::default();
+    let t = crowd_of(&mut draft, 4);
+    let mut l = draft.predicate(2);
+    draft.rule(&[(t, &[0]), (t, &[1])], &[&[(l, &[0, 1])]]);
+    while draft.book.arities.len() < count {
+        let next = draft.predicate(2);
+        draft.rule(&[(l, &[0, 1]), (l, &[1, 2])], &[&[(next, &[0, 2])]]);
+        l = next;
+    }
+    draft
+}
+
 /// `tops` terms of 31 places, and smaller ones, and a blockable rule over pairs of them, each pair tested with what made
 /// its terms.
 fn large_terms(tops: usize) -> Draft {
@@ -268,6 +283,7 @@ pub fn families(folder: &str) -> std::io::Result<Vec<Family>> {
         family("Fork", "doublings", &[1, 2, 3, 4, 5, 6], fork),
         family("Chain", "links", &[2, 4, 8, 16], chain),
         family("Predicates", "predicates", &[8, 16, 32, 64], predicates),
+        family("Joins", "predicates", &[8, 16, 32, 64], joins),
         family("Large terms", "terms", &[1, 2, 4, 8], large_terms),
         family("Limits", "rules", &[16, 32, 64], limits),
         family("Cross", "terms", &[3, 6, 12, 13], cross_first),
