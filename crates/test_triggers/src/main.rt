@@ -4,7 +4,7 @@ use new_triggers::Extent;
 ghost use Rattle.test_triggers.specs.Cases.{Case};
 
 // Room for the index of a few facts.
-const INDEX_ROOM: usize = 2600;
+const INDEX_ROOM: usize = 3120;
 
 // The last digit of a number.
 fn digit(x: u16) -> u8 {

@@ -24,7 +24,7 @@ abbrev μ-loop : tie.MeasureT-loop
 extend-requires : tie.Need-extend-requires Inv-loop μ-loop
 extend-requires c κs =
     let s = c .before .before in
-    (indexed-zeros (s .args .facts .now) 2600 (omega arith), omega arith, record { few = omega arith; rows = s .pre .room; room = search needs })
+    (indexed-zeros (s .args .facts .now) 3120 (omega arith), omega arith, record { few = omega arith; rows = s .pre .room; room = search needs })
 
 searchable : (p : tie.After-plan-of-all Inv-loop μ-loop)
     → Searchable (bodyOf (p .before .before .before .before .before .args .body) (p .plan-of-all .result)) (p .before .before .before .before .before .args .facts .now)
