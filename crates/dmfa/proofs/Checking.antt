@@ -9,7 +9,6 @@ use lib.ListN.{length, take, length-append, length-map, length-take}
 use borrow.Author.Tests.{leb-true}
 use Rattle.model.specs.Rules.{RuleSet, entries}
 use Rattle.model.specs.WellFormed.{WellFormed}
-use Rattle.model.specs.Format.{Parsed, good, bad, read}
 use Rattle.model.specs.Form.{formLength, decoded, done, refusal, Reading, reading}
 use Rattle.model.specs.Stages.{Verdict, accepted, cyclicAt, refused, stage, cyclicTerms, verdict}
 use Rattle.model.specs.Limits.{termsFront, factsFront}
@@ -19,7 +18,7 @@ use Rattle.dmfa.specs.Verdict.{meant}
 use Rattle.laws.proofs.Bools.{not-both, and-true}
 use Rattle.laws_stages.specs.Reached.{Reached}
 use Rattle.laws_stages.proofs.Verdict.{reached-facts-within, reached-terms-within, accepted-says, cyclicAt-says}
-use Rattle.laws_format.proofs.RoundTrip.{reading-good, reading-bad}
+use Rattle.reader.proofs.Reading.{reading-refused}
 use Rattle.reader.proofs.Held.{read-holds}
 use Rattle.laws_tables.specs.Lent.{Fronts, Depth}
 use Rattle.laws_tables.proofs.Courses.{is-depth, checked-bad}
@@ -95,23 +94,9 @@ no-depth-told d e h = not-both (isDepth d) (is-depth d h) e
 -- what was read
 
 module _ (d : ℕ) (bytes form terms₀ facts₀ : List ℕ) (room : formLength ≤ length form) (h : Fronts terms₀ facts₀) (a : Depth d) where
-  refusal-read : (n p : ℕ) → reading bytes form .answer ≡ refusal n p → read bytes ≡ bad n p
-  refusal-read n p e = go (read bytes) refl
-    where
-      go : (r : Parsed RuleSet) → read bytes ≡ r → read bytes ≡ bad n p
-      go (good b i) q =
-          let k = ap (λ (x : Reading). x .answer) (reading-good bytes form b i room q) in
-          let z : _≡_ {A = ℕ} 0 1 = cc in
-          absurd (omega arith)
-      go (bad m o) q =
-          let k = ap (λ (x : Reading). x .answer) (reading-bad bytes form m o room q) in
-          let s : m ≡ n = cc in
-          let t : o ≡ p = cc in
-          q ∙ (λ i. bad (s i) (t i))
-
   -- a fault of the bytes leaves the tables as they were
   pub checked-refused : (n p : ℕ) → reading bytes form .answer ≡ refusal n p → checked d bytes terms₀ facts₀ ≡ record { verdict = refused n p; terms = terms₀; facts = facts₀ }
-  checked-refused n p e = checked-bad d bytes terms₀ facts₀ n p h a (refusal-read n p e)
+  checked-refused n p e = checked-bad d bytes terms₀ facts₀ n p h a (reading-refused bytes form room n p e)
 
   module _ (n : ℕ) (form′ : List ℕ) (e : reading bytes form ≡ record { answer = done n; form = form′ }) where
     pub form-held : Held form′

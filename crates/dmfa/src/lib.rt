@@ -172,7 +172,7 @@ pub fn check(bytes: &[u8], depth: usize, terms: &mut [u16], facts: &mut [u16]) -
         return Verdict::Refused(18, 0);
     }
     let mut form = [0u16; FORM_LENGTH];
-    let read = reader::read(bytes, &mut form[..]);
+    let read = reader::read_afresh(bytes, &mut form[..]);
     match read {
         Transfer::Done(_) => { check_form(&form[..], &mut *terms, &mut *facts, depth as u8) }
         Transfer::Refusal(refusal, place) => Verdict::Refused(refusal as usize, place),

@@ -22,7 +22,7 @@ ghost use Rattle.model.specs.Format as format;
 ghost use Rattle.parsing.specs.Step.{none, parsedRules, zeros, Filled, Arities, atomsSet};
 ghost use Rattle.parsing.specs.Heads.{fault as faulty};
 ghost use Rattle.reader.specs.Parts.{grownBy, grownByAtom, rulesRow, afterArities};
-ghost use Rattle.reader.specs.Transfer.{Reads};
+ghost use Rattle.reader.specs.Transfer.{Reads, ReadsAfresh};
 
 // The place of a rule's disjuncts in its row, and that of the arities in a form, which are its last 64 numbers.
 const HEAD_PLACE: usize = 1 + GROUP_WIDTH;
@@ -292,6 +292,23 @@ fn stated(bytes: &[u8]) -> usize
         + bytes[3] as usize
 }
 
+// Bytes into a form of zeros that no caller sees after a refusal: then it may hold anything. There is room for it, so there is no refusal 1.
+pub fn read_afresh(bytes: &[u8], form: &mut [u16]) -> Transfer
+    requires { ⌜ now form ≡ zeros formLength ⌝ }
+    ensures { λ r. ⌜ ReadsAfresh (now (bytes .entry)) r (now (form .exit)) ⌝ }
+{
+    if bytes.len() < 4 {
+        return Transfer::Refusal(2, 0);
+    }
+    if stated(bytes) + 4 != bytes.len() {
+        return Transfer::Refusal(2, 0);
+    }
+    match rule_set(bytes, form) {
+        Step::Good(_, end) => Transfer::Done(end),
+        Step::Bad(refusal, place) => Transfer::Refusal(refusal, place),
+    }
+}
+
 // Bytes into a form (document 01: book form), which stays as it was on a refusal. A form too short is refusal 1.
 pub fn read(bytes: &[u8], form: &mut [u16]) -> Transfer
     ensures { λ r. ⌜ Reads (now (bytes .entry)) (now (form .entry)) r (now (form .exit)) ⌝ }
@@ -299,18 +316,12 @@ pub fn read(bytes: &[u8], form: &mut [u16]) -> Transfer
     if form.len() < LENGTH {
         return Transfer::Refusal(1, 0);
     }
-    if bytes.len() < 4 {
-        return Transfer::Refusal(2, 0);
-    }
-    if stated(bytes) + 4 != bytes.len() {
-        return Transfer::Refusal(2, 0);
-    }
     let mut local = [0u16; LENGTH];
-    match rule_set(bytes, &mut local[..]) {
-        Step::Good(_, end) => {
+    match read_afresh(bytes, &mut local[..]) {
+        Transfer::Done(end) => {
             copy(&local[..], form);
             Transfer::Done(end)
         }
-        Step::Bad(refusal, place) => Transfer::Refusal(refusal, place),
+        Transfer::Refusal(refusal, place) => Transfer::Refusal(refusal, place),
     }
 }

@@ -1,12 +1,12 @@
 -- `dmfa::check` meets its contract: the refusals in their order, then the answer on the form that was read. Assumes nothing.
-use mathlib.Core.Path.{_≡_, sym, ap, _∙_}
+use mathlib.Core.Path.{_≡_, refl, sym, _∙_, subst}
 use mathlib.Core.Logic.{inl, inr}
-use Prim.Native.Nat.{ℕ, _≤_}
 use native.Mathlib.Omega.{arith}
-use lib.ListN.{length, replicate, length-replicate}
-use Rattle.model.specs.Form.{formLength, done, Reading, reading}
+use Rattle.model.specs.Form.{formLength, done, reading}
 use Rattle.reader.specs.declared.Transfer.{Transfer}
-use Rattle.reader.specs.Transfer.{transferOf}
+use Rattle.reader.specs.Transfer.{ReadsAfresh}
+use Rattle.reader.proofs.Reading.{zeros-long}
+use Rattle.parsing.specs.Step.{zeros}
 use Rattle.laws_tables.specs.Lent.{Fronts, Depth}
 use Rattle.laws_tables.proofs.Courses.{checked-short, checked-shallow}
 use Rattle.dmfa.proofs.Checking.{depth-told, no-depth-told, checked-refused, form-held, checked-left}
@@ -22,13 +22,12 @@ fronts e = record { terms = e .before .before .before .if1 .left; facts = e .bef
 deep : (e : tie.Else3) → Depth (e .before .before .before .before .before .before .before .args .depth)
 deep e = let d = e .before .is-depth in depth-told (e .before .before .before .before .before .before .before .args .depth) (sym (d .ensures) ∙ not-false (d .result) (e .if3 .left))
 
-zeros : formLength ≤ length (replicate {A = ℕ} 6850 0)
-zeros = omega (arith, length-replicate {A = ℕ} 6850 0)
-
 -- the form was filled
 was-read : (t : tie.After-enum-told)
-    → reading (t .before .before .before .before .before .before .before .before .before .before .before .before .args .bytes .now) (replicate 6850 0) ≡ record { answer = done (t .enum-told .given .0 .0); form = t .before .before .before .read .last .1 .0 }
-was-read t = t .before .before .before .read .ensures ∙ ap (λ (x : Transfer). record { answer = transferOf x; form = t .before .before .before .read .last .1 .0 }) (t .enum-told .given .1)
+    → reading (t .before .before .before .before .before .before .before .before .before .before .before .before .args .bytes .now) (zeros formLength) ≡ record { answer = done (t .enum-told .given .0 .0); form = t .before .before .before .read-afresh .last .1 .0 }
+was-read t =
+    let d = t .before .before .before .read-afresh in
+    subst (λ (x : Transfer). ReadsAfresh (t .before .before .before .before .before .before .before .before .before .before .before .before .args .bytes .now) x (d .last .1 .0)) (t .enum-told .given .1) (d .ensures)
 
 returns : tie.Need-returns
 returns c = let a = c .before .before .before .before .args in checked-short (a .depth) (a .bytes .now) (a .terms .now) (a .facts .now) (inl (c .if1 .taken))
@@ -43,6 +42,10 @@ returns-3 c =
     checked-shallow (a .depth) (a .bytes .now) (a .terms .now) (a .facts .now) (record { terms = c .before .before .before .if1 .left; facts = c .before .before .if2 .left })
     (no-depth-told (a .depth) (sym (d .ensures) ∙ not-true (d .result) (c .if3 .taken)))
 
+read-afresh-requires : tie.Need-read-afresh-requires
+unfolding zeros
+read-afresh-requires c κs = refl
+
 cast-check-form : tie.Need-cast-check-form
 cast-check-form c = let d = deep (c .before .before .before .before .before .before .before .before) in omega (arith, d .1)
 
@@ -52,14 +55,14 @@ check-form-requires c κs =
     let e = t .before .before .before .before .before in
     let s = e .before .before .before .before .before .before .before in
     let h = fronts e in
-    (deep e .0, form-held (s .args .depth) (s .args .bytes .now) (replicate 6850 0) (s .args .terms .now) (s .args .facts .now) zeros h (deep e) (t .enum-told .given .0 .0) _ (was-read t), h .terms, h .facts)
+    (deep e .0, form-held (s .args .depth) (s .args .bytes .now) (zeros formLength) (s .args .terms .now) (s .args .facts .now) zeros-long h (deep e) (t .enum-told .given .0 .0) _ (was-read t), h .terms, h .facts)
 
 returns-4 : tie.Need-returns-4
 returns-4 c =
     let t = c .before .before .before .before .before .before .before .before in
     let e = t .before .before .before .before .before in
     let s = e .before .before .before .before .before .before .before in
-    checked-left (s .args .depth) (s .args .bytes .now) (replicate 6850 0) (s .args .terms .now) (s .args .facts .now) zeros (fronts e) (deep e) (t .enum-told .given .0 .0) _ (was-read t)
+    checked-left (s .args .depth) (s .args .bytes .now) (zeros formLength) (s .args .terms .now) (s .args .facts .now) zeros-long (fronts e) (deep e) (t .enum-told .given .0 .0) _ (was-read t)
     ∙ sym (c .before .before .before .before .check-form .ensures)
 
 returns-5 : tie.Need-returns-5
@@ -67,8 +70,8 @@ returns-5 c =
     let r = c .before .before .before .before in
     let e = r .before .before in
     let s = e .before .before .before .before .before .before .before in
-    checked-refused (s .args .depth) (s .args .bytes .now) (replicate 6850 0) (s .args .terms .now) (s .args .facts .now) zeros (fronts e) (deep e) (c .before .read2 .given .0 .0) (c .before .read2 .given .0 .1 .0)
-    (ap (λ (x : Reading). x .answer) (r .read .ensures) ∙ ap transferOf (c .before .read2 .given .1))
+    checked-refused (s .args .depth) (s .args .bytes .now) (zeros formLength) (s .args .terms .now) (s .args .facts .now) zeros-long (fronts e) (deep e) (c .before .read .given .0 .0) (c .before .read .given .0 .1 .0)
+    (subst (λ (x : Transfer). ReadsAfresh (s .args .bytes .now) x (r .read-afresh .last .1 .0)) (c .before .read .given .1) (r .read-afresh .ensures))
 
 pub check-spec : {M : Type 1} → statement M
 check-spec =
@@ -79,7 +82,7 @@ check-spec =
     (λ c κs. search needs)
     returns-3
     (λ c. search needs)
-    (λ c κs. search needs)
+    read-afresh-requires
     (λ c. search needs)
     (λ c. search needs)
     cast-check-form
