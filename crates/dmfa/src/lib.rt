@@ -33,9 +33,9 @@ const TERM_WIDTH: usize = 10;
 
 const FACT_WIDTH: usize = 5;
 
-// Room for 1,100 terms; and for 8,708, all that can be made of a stage, and the 64 of an output more. A term has ten numbers and a link, and
+// Room for 640 terms; and for 8,708, all that can be made of a stage, and the 64 of an output more. A term has ten numbers and a link, and
 // behind them stand 512 buckets.
-const SMALL_ROOM: usize = 13200;
+const SMALL_ROOM: usize = 7680;
 
 const LARGE_ROOM: usize = 105264;
 
@@ -78,7 +78,7 @@ fn check_by(
     }
 }
 
-// The verdict if 1,100 terms are room enough, as they are for nearly every rule set: less is to be cleared.
+// The verdict if 640 terms are room enough, as they are for nearly every rule set: less is to be cleared.
 fn check_small(
     form: &[u16],
     before: &[u16],

@@ -7,7 +7,7 @@ use Rattle.dmfa.proofs.check_small.Statement.{statement}
 use Rattle.dmfa.proofs.check_small.Tie as tie
 
 check-by-requires : tie.Need-check-by-requires
-check-by-requires c κs = let s = c .before .before .before .before .before .before .before .before in (s .pre, kept-terms-none 13200 (omega arith), kept-none 13318 2049 (omega arith) (omega arith))
+check-by-requires c κs = let s = c .before .before .before .before .before .before .before .before in (s .pre, kept-terms-none 7680 (omega arith), kept-none 13318 2049 (omega arith) (omega arith))
 
 returns : tie.Need-returns
 returns c = c .before .before .before .before .before .before .check-by .ensures
