@@ -14,7 +14,7 @@ use Rattle.laws_triggers.proofs.Encode.{holds-is}
 use Rattle.form.specs.Places.{aritiesOf, rulesOf, ruleOf}
 use Rattle.form.proofs.Places.{rule-well-formed}
 use Rattle.rows.specs.Making.{handled}
-use Rattle.saturation.proofs.Bodies.{bodyOf, encodes}
+use Rattle.variable_order.proofs.Bodies.{bodyOf, encodes}
 use Rattle.stage_large.specs.Stage.{Tabled, tables}
 use Rattle.stage_large.proofs.Sizes.{arity-few}
 use Rattle.stage_output.proofs.Entering.{rows-taken}

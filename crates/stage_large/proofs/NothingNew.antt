@@ -9,7 +9,7 @@ use Rattle.new_triggers.proofs.Streamed.{nothing-new-unhandled}
 use Rattle.form.specs.Places.{Held, rulesOf, ruleOf, atomPredicates}
 use Rattle.form.proofs.Places.{rule-well-formed}
 use Rattle.form.proofs.Rows.{predicates-rows}
-use Rattle.saturation.proofs.Bodies.{bodyOf}
+use Rattle.variable_order.proofs.Bodies.{bodyOf}
 use Rattle.stage_large.specs.Idle.{idle}
 
 pub idle-unhandled : (form : List ℕ) → Held form → (i : ℕ) → i < length (rulesOf form) → (facts : List ℕ) (n old : ℕ) → idle (ruleOf form i) facts n old ≡ true

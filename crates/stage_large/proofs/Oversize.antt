@@ -21,7 +21,7 @@ use Rattle.new_triggers.proofs.Unhandled.{unhandled-kept}
 use Rattle.form.specs.Places.{aritiesOf, rulesOf, ruleOf, atomRows, atomArities}
 use Rattle.form_variables.specs.Sets.{setOf}
 use Rattle.form.proofs.Places.{rule-well-formed}
-use Rattle.saturation.proofs.Bodies.{bodyOf, encodes}
+use Rattle.variable_order.proofs.Bodies.{bodyOf, encodes}
 use Rattle.stage_large.specs.Idle.{idle}
 use Rattle.stage_large.specs.Large.{large, HandledSmall}
 use Rattle.stage_large.specs.Stage.{Tabled, tables, stageOf}

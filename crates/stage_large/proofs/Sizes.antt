@@ -30,7 +30,7 @@ use Rattle.form.proofs.Places.{arity-range, rule-well-formed}
 use Rattle.rows.specs.Judging.{total, sizeIn, tooLargeAt}
 use Rattle.stage_output.proofs.Flat.{total-agree, sizeIn-is}
 use Rattle.rows.proofs.Triggers.{trigger-below}
-use Rattle.saturation.proofs.Bodies.{bodyOf, encodes, small, declared-arity}
+use Rattle.variable_order.proofs.Bodies.{bodyOf, encodes, small, declared-arity}
 use Rattle.laws.proofs.Places.{getD-beyond}
 use Rattle.stage_large.specs.Large.{placesOf, large}
 use Rattle.stage_large.specs.Stage.{Tabled, tables}
