@@ -12,9 +12,11 @@ use Rattle.laws_triggers.specs.Match.{Body}
 use Rattle.laws_triggers.specs.Next.{after}
 use Rattle.triggers.specs.declared.Plan.{Plan}
 use Rattle.cursor.specs.Plan.{bodyOf, EveryMatters}
+use Rattle.cursor.specs.Going.{tellAll}
 use Rattle.new_triggers.specs.declared.Extent.{Extent}
 use Rattle.new_triggers.specs.Unhandled.{unhandledFrom, NextUnhandled}
-use Rattle.new_triggers.specs.Walk.{Cursor, Stepped, Walked, Steps}
+use Rattle.new_triggers.specs.Walk.{Cursor, Walked}
+use Rattle.new_triggers.specs.Steps.{Stepped, Steps}
 use Rattle.new_triggers.proofs.Every.{every-next}
 use Rattle.stage_large.specs.Large.{placesOf, large}
 
@@ -35,13 +37,13 @@ module _ {b : Body} {facts : List ℕ} {m old n : ℕ} {start : List ℕ} {found
 pub record Seeking (body : List (List ℕ)) (plan : Plan) (over : Extent) (facts : List ℕ) (p : List ℕ → Bool) (all : Bool) (c : Cursor) : Type 0 where
   pub given : List (List ℕ)
   pub start : List ℕ
-  pub walked : Walked body plan over facts given start c
+  pub walked : Walked (bodyOf body plan) (plan .near) over facts (tellAll (plan .matters) given) start c
   pub decides : all ≡ any p (unhandledFrom (bodyOf body plan) facts (over .facts) (over .old) (over .terms) start)
 
 module _ {body : List (List ℕ)} {plan : Plan} {over : Extent} {facts : List ℕ} {p : List ℕ → Bool} {all : Bool} {c : Cursor} (s : Seeking body plan over facts p all c)
     (every : EveryMatters body plan) {r : Stepped} (steps : Steps body plan over c facts r) where
   next : NextUnhandled (bodyOf body plan) facts (over .facts) (over .old) (over .terms) (s .start) (r .found) (r .trigger)
-  next = every-next (s .walked) every (steps .next (s .given) (s .start) (s .walked))
+  next = every-next (plan .matters) (s .given) (s .walked) every (steps .next (tellAll (plan .matters) (s .given)) (s .start) (s .walked))
 
   pub seeking-within : r .found ≡ true → (i : ℕ) → getD (r .trigger) i 0 < over .terms
   seeking-within f = next .within f
@@ -57,7 +59,7 @@ module _ {body : List (List ℕ)} {plan : Plan} {over : Extent} {facts : List �
       record {
         given = r .trigger ∷ s .given;
         start = after (r .trigger);
-        walked = steps .onward f (s .given) (s .start) (s .walked);
+        walked = steps .further f .onward (tellAll (plan .matters) (s .given)) (s .start) (s .walked);
         decides = s .decides ∙ next-fails next p f e;
       }
 

@@ -9,8 +9,10 @@ use Rattle.laws_triggers.specs.Match.{Body, Searchable}
 use Rattle.laws_triggers.specs.Next.{after}
 use Rattle.fact_index.proofs.Entering.{indexed-zeros}
 use Rattle.cursor.specs.Plan.{bodyOf}
+use Rattle.cursor.specs.Going.{told}
 use Rattle.cursor.proofs.Plans.{planned-body}
-use Rattle.new_triggers.specs.Walk.{Walks, cursorOf, aheadIn}
+use Rattle.new_triggers.specs.Walk.{Walks, cursorOf}
+use Rattle.new_triggers.specs.Steps.{aheadIn}
 use Rattle.test_triggers.proofs.Cases.{case-searchable}
 use Rattle.test_triggers.proofs.print_triggers.Statement.{statement}
 use Rattle.test_triggers.proofs.print_triggers.Tie as tie
@@ -19,7 +21,7 @@ abbrev Inv-loop : tie.InvT-loop
 Inv-loop body atoms facts count terms index plan over triggers₀ conflicts₀ live₀ triggers conflicts live = Walks body plan over triggers conflicts live facts index
 
 abbrev μ-loop : tie.MeasureT-loop
-μ-loop body atoms facts count terms index plan over triggers₀ conflicts₀ live₀ triggers conflicts live = aheadIn (over .terms) (cursorOf (plan .matters) triggers conflicts live .streams)
+μ-loop body atoms facts count terms index plan over triggers₀ conflicts₀ live₀ triggers conflicts live = aheadIn (over .terms) (cursorOf triggers conflicts live .streams)
 
 extend-requires : tie.Need-extend-requires Inv-loop μ-loop
 extend-requires c κs =
@@ -58,22 +60,24 @@ loop-holds c =
 loop-less : tie.Need-loop-less Inv-loop μ-loop
 loop-less c =
     let step = c .before .before .before .before .next in
-    step .ensures .steps .fewer (not-false (step .result .found) (c .before .before .if1 .left))
+    step .ensures .steps .further (not-false (step .result .found) (c .before .before .if1 .left)) .fewer
 
 loop-again : tie.Need-loop-again Inv-loop μ-loop
 loop-again c =
     let step = c .before .before .before .before .next in
-    let w = c .before .before .before .before .before .before .before .before .before .loop .inv in
+    let l = c .before .before .before .before .before .before .before .before .before in
+    let w = l .loop .inv in
+    let plan = l .before .before .before .before .before .before .plan-of-all .result in
     record {
       searchable = w .searchable;
       planned = w .planned;
       indexed = w .indexed;
-      given = step .result .trigger ∷ w .given;
+      given = told (step .result .trigger) (plan .matters) ∷ w .given;
       start = after (step .result .trigger);
       walking =
           record {
             four = step .ensures .four;
-            walked = step .ensures .steps .onward (not-false (step .result .found) (c .before .before .if1 .left)) (w .given) (w .start) (w .walking .walked);
+            walked = step .ensures .steps .further (not-false (step .result .found) (c .before .before .if1 .left)) .onward (w .given) (w .start) (w .walking .walked);
           };
     }
 

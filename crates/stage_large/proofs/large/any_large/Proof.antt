@@ -8,9 +8,11 @@ use lib.ListN.{length, replicate}
 use Rattle.model.specs.Lists.{any}
 use Rattle.laws_triggers.specs.Match.{Body, Searchable}
 use Rattle.cursor.specs.Plan.{bodyOf}
+use Rattle.cursor.specs.Going.{tellAll}
 use Rattle.cursor.proofs.Plans.{planned-body, every-matters}
 use Rattle.new_triggers.specs.Unhandled.{unhandledFrom, Apart}
-use Rattle.new_triggers.specs.Walk.{Four, cursorOf, aheadIn}
+use Rattle.new_triggers.specs.Walk.{Four, cursorOf}
+use Rattle.new_triggers.specs.Steps.{aheadIn}
 use Rattle.stage_large.specs.Large.{large, Measured}
 use Rattle.stage_large.proofs.Steps.{Seeking, seeking-none, seeking-passes, seeking-fails, seeking-within, large-yes, large-no}
 use Rattle.stage_large.proofs.large.any_large.Statement.{statement}
@@ -19,13 +21,13 @@ use Rattle.stage_large.proofs.large.any_large.Tie as tie
 abbrev Inv-loop : tie.InvT-loop
 Inv-loop body atoms set terms facts index sizes₀ n plan over triggers₀ conflicts₀ live₀ sizes triggers conflicts live =
     Seeking body plan over facts (large terms set) (any (large terms set) (unhandledFrom (record { atoms = body; arities = plan .arities; count = plan .atoms }) facts (over .facts) (over .old) (over .terms) (replicate 8 0)))
-    (cursorOf (plan .matters) triggers conflicts live)
+    (cursorOf triggers conflicts live)
     × Measured terms sizes
     × (length sizes ≡ length sizes₀)
     × Four triggers conflicts live
 
 abbrev μ-loop : tie.MeasureT-loop
-μ-loop body atoms set terms facts index sizes₀ n plan over triggers₀ conflicts₀ live₀ sizes triggers conflicts live = aheadIn (over .terms) (cursorOf (plan .matters) triggers conflicts live .streams)
+μ-loop body atoms set terms facts index sizes₀ n plan over triggers₀ conflicts₀ live₀ sizes triggers conflicts live = aheadIn (over .terms) (cursorOf triggers conflicts live .streams)
 
 -- the triggers by the plan are those of the body
 same-triggers : (c : tie.After-plan-of-all Inv-loop μ-loop)
@@ -63,12 +65,13 @@ next-requires c κs =
     let l = c .before .before .before in
     let s = c .before .before .before .before .before .before .before .before .before .before .before .before .before in
     let a = s .args in
-    let p = c .before .before .before .before .before .before .before .before .plan-of-all .ensures in
+    let made = c .before .before .before .before .before .before .before .before .plan-of-all in
+    let p = made .ensures in
     record {
       searchable = subst (λ (b : Body). Searchable b (a .facts .now) (a .counts .facts) (a .counts .terms)) (sym (planned-body p)) (s .pre .searchable);
       planned = p .planned;
       indexed = s .pre .indexed;
-      given = l .loop .inv .0 .given;
+      given = tellAll (made .result .matters) (l .loop .inv .0 .given);
       start = l .loop .inv .0 .start;
       walking = record { four = l .loop .inv .3; walked = l .loop .inv .0 .walked };
     }
@@ -101,7 +104,7 @@ returns-2 c =
 loop-less : tie.Need-loop-less Inv-loop μ-loop
 loop-less c =
     let n = c .before .before .before .before .before .before .before .before .next in
-    n .ensures .steps .fewer (not-false (n .result .found) (c .before .before .before .before .before .before .if1 .left))
+    n .ensures .steps .further (not-false (n .result .found) (c .before .before .before .before .before .before .if1 .left)) .fewer
 
 loop-again : tie.Need-loop-again Inv-loop μ-loop
 loop-again c =
