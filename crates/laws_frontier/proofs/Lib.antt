@@ -1,0 +1,4 @@
+pub mod Image
+pub mod Filled
+pub mod Starred
+pub mod Blocks

@@ -1,0 +1,1 @@
+// laws of triggers that their frontier alone blocks, in proofs/
