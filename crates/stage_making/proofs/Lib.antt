@@ -1,3 +1,4 @@
+pub mod Starred
 pub mod Most
 pub mod Stays
 pub mod After

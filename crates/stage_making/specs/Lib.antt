@@ -1,3 +1,4 @@
+pub mod Starred
 pub mod Stage
 pub mod Trigger
 pub mod Plan
