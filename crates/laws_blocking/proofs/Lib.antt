@@ -1,4 +1,5 @@
 pub mod Built
+pub mod Nodes
 pub mod Apart
 pub mod Copies
 pub mod Template

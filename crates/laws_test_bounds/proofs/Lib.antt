@@ -1,0 +1,3 @@
+pub mod Choices
+pub mod Derived
+pub mod Bounded
