@@ -12,6 +12,7 @@ use lib.Seq.{take-at, drop-at, getD-drop, take-add, length-take-le, drop-cons}
 use Rattle.model.specs.Lists.{collect}
 use Rattle.model.specs.Form.{spaced}
 use Rattle.laws.specs.Lists.{rising}
+use Rattle.laws.proofs.Rising.{rising-length}
 use Rattle.laws.proofs.Places.{length-spaced}
 use Rattle.tables.specs.Rows.{rows}
 use Rattle.tables.proofs.Tables.{rows-length}
@@ -180,11 +181,6 @@ column-bounded w (suc n) table at h x m = go (λ k. column-bounded w n table (at
     go below (inl e) = rw e (at-below modulus table at (omega arith) h)
     go below (inr k) = below k
 
-length-rising : (k n : ℕ) → length (rising k n) ≡ n
-unfolding rising
-length-rising k zero = refl
-length-rising k (suc n) = ap suc (length-rising (suc k) n)
-
 map-agree : {A B : Type 0} (f g : A → B) (xs : List A) → ((x : A) → List·Memᴰ x xs → f x ≡ g x) → map f xs ≡ map g xs
 map-agree f g [] h = refl
 map-agree {B = B} f g (x ∷ xs) h = ap₂ (λ (y : B) (ys : List B). y ∷ ys) (h x (List·Memᴰ·head refl)) (map-agree f g xs (λ y m. h y (List·Memᴰ·tail m)))
@@ -213,7 +209,7 @@ module _ (w n : ℕ) where
 
   length-columns : (table : List ℕ) → length (columns w n table) ≡ w
   unfolding columns
-  length-columns table = length-map (column w n table) (rising 0 w) ∙ length-rising 0 w
+  length-columns table = length-map (column w n table) (rising 0 w) ∙ rising-length 0 w
 
   pub length-column : (table : List ℕ) (j : ℕ) → length (column w n table j) ≡ n
   unfolding column

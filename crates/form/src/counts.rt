@@ -31,7 +31,7 @@ pub fn rule_count(form: &[u16]) -> usize
 }
 
 // The arity of predicate `p`.
-pub(crate) fn arity(form: &[u16], p: usize) -> usize
+pub fn arity(form: &[u16], p: usize) -> usize
     requires { ⌜ Held (now form) × (p < length (aritiesOf (now form))) ⌝ }
     ensures { λ r. ⌜ r ≡ getD (aritiesOf (now (form .entry))) p 0 ⌝ }
 {

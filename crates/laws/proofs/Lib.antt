@@ -14,4 +14,5 @@ pub mod Counting
 pub mod Distinct
 pub mod WellFormed
 pub mod Places
+pub mod Marks
 pub mod Triggers

@@ -1,21 +1,15 @@
--- Lists of numbers below a bound: how many there are, and that they are all there. Assumes nothing.
+-- Lists of so many numbers out of a list: how many there are, and that they are all there. Assumes nothing.
 use mathlib.Core.Path.{_≡_, refl, sym, ap, _∙_}
 use mathlib.Core.List.{List, [], _∷_, List·Memᴰ, List·Memᴰ·head, List·Memᴰ·tail}
-use Prim.Native.Nat.{ℕ, zero, suc, _*_, _^_, _≤_}
+use Prim.Native.Nat.{ℕ, _*_, _^_, _≤_}
 use native.Mathlib.Nat.{pow-zero, pow-succ'}
 use native.Mathlib.Omega.{arith}
 use lib.ListN.{length, length-map, length-append}
 use Rattle.model.specs.Lists.{collect}
-use Rattle.laws.specs.Lists.{rising}
 use Rattle.laws.proofs.Lists.{mem-collect, mem-map}
 use Rattle.laws.proofs.Counting.{collect-length}
 use Rattle.rows.specs.Triggers.{choices}
 use Rattle.rows.specs.Judging.{total}
-
-pub rising-length : (k n : ℕ) → length (rising k n) ≡ n
-unfolding rising
-rising-length k zero = refl
-rising-length k (suc n) = ap suc (rising-length (suc k) n)
 
 pub choices-length : (vs ns : List ℕ) → length (choices vs ns) ≡ length ns ^ length vs
 unfolding choices

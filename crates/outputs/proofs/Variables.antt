@@ -4,7 +4,7 @@ use mathlib.Core.Bool.{Bool, true, false}
 use mathlib.Core.List.{List, [], _∷_, _++_, map, map-append, append-nil, List·Memᴰ, List·Memᴰ·head, List·Memᴰ·tail, List·Memᴰ·not-nil, List·Memᴰ·cases-cons}
 use mathlib.Core.Logic.{_⊎_, inl, inr, ⊎-elim}
 use Prim.Native.Nat.{ℕ, zero, suc, _+_, _-_, _≤_, _<_}
-use native.Mathlib.Nat.{add-zero, add-suc, suc-add, zero-add}
+use native.Mathlib.Nat.{zero-add}
 use native.Mathlib.Omega.{arith}
 use lib.Dec.{eqb}
 use lib.ListN.{length, getD, set, replicate, length-append, length-set, length-replicate}
@@ -15,16 +15,12 @@ use Rattle.model.specs.Lists.{keep, index, padded}
 use Rattle.laws.proofs.Bools.{case}
 use Rattle.laws.proofs.Lists.{keep-yes, keep-no, keep-mem, index-here, index-there, eqb-decides}
 use Rattle.laws.specs.Lists.{rising}
+use Rattle.laws.proofs.Rising.{rising-length, rising-append}
 use Rattle.form_variables.specs.Sets.{has, elements}
 use Rattle.outputs.specs.Skolem.{functionWith, templateWith}
 use Rattle.facts.proofs.Rows.{padded-more, set-below}
 
 -- numbers in rising order
-
-rising-append : (k a b : ℕ) → rising k (a + b) ≡ rising k a ++ rising (k + a) b
-unfolding rising
-rising-append k zero b = rw (zero-add b, add-zero k)
-rising-append k (suc a) b = ap (rising k) (suc-add a b) ∙ ap (λ (xs : List ℕ). k ∷ xs) (rising-append (suc k) a b ∙ ap (λ (m : ℕ). rising (suc k) a ++ rising m b) (suc-add k a ∙ sym (add-suc k a)))
 
 rising-mem : (k n : ℕ) {x : ℕ} → List·Memᴰ x (rising k n) → (k ≤ x) × (x < k + n)
 unfolding rising
@@ -96,11 +92,6 @@ keep-length p (x ∷ xs) = go (case (p x)) (keep-length p xs)
     go : (p x ≡ true) ⊎ (p x ≡ false) → length (keep p xs) ≤ length xs → length (keep p (x ∷ xs)) ≤ suc (length xs)
     go (inl e) b = rw (keep-yes p x xs e) (omega arith)
     go (inr e) b = rw (keep-no p x xs e) (omega arith)
-
-rising-length : (k n : ℕ) → length (rising k n) ≡ n
-unfolding rising
-rising-length k zero = refl
-rising-length k (suc n) = ap suc (rising-length (suc k) n)
 
 pub below-length : (s v : ℕ) → length (below s v) ≤ v
 unfolding below
