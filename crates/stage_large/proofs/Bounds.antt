@@ -39,7 +39,7 @@ unfolding total
 bounds-end f t i j h = ap (total f) (argumentsOf-end t i j h)
 
 -- sums of what is bounded one by one
-total-bounded : (f g : ℕ → ℕ) (xs : List ℕ) → ((x : ℕ) → List·Memᴰ x xs → min (f x) 65 ≤ g x) → min (total f xs) 65 ≤ total g xs
+pub total-bounded : (f g : ℕ → ℕ) (xs : List ℕ) → ((x : ℕ) → List·Memᴰ x xs → min (f x) 65 ≤ g x) → min (total f xs) 65 ≤ total g xs
 unfolding total
 total-bounded f g [] h = omega arith
 total-bounded f g (x ∷ xs) h =

@@ -1,5 +1,6 @@
 pub mod Bounds
 pub mod Handled
+pub mod Kept
 pub mod NothingNew
 pub mod Oversize
 pub mod Places

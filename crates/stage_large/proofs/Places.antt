@@ -9,13 +9,14 @@ use native.Mathlib.Decide.{ℕ-discrete}
 use native.Mathlib.Omega.{arith}
 use lib.ListN.{length, getD, set, take, replicate}
 use lib.Seq.{take-suc, getD-set-same, getD-set-other}
+use borrow.Author.Tests.{lt-ltb}
 use Rattle.model.specs.Lists.{keep}
 use Rattle.model.specs.Rules.{names}
 use Rattle.laws.proofs.Lists.{keep-yes, keep-no, keep-append}
 use Rattle.tables.specs.Terms.{total, sizeAt}
 use Rattle.laws.proofs.Places.{zeros-at}
 use Rattle.form_variables.specs.Sets.{has, elements}
-use Rattle.stage_large.specs.Large.{placesOf, Measured}
+use Rattle.stage_large.specs.Large.{placesOf, large, Measured}
 use Rattle.rows.proofs.Triggers.{names-at}
 
 total-append : (f : ℕ → ℕ) (xs ys : List ℕ) → total f (xs ++ ys) ≡ total f xs + total f ys
@@ -74,3 +75,8 @@ module _ (t : List ℕ) (set : ℕ) (xs : List ℕ) where
   pub places-all : placesBefore 8 ≡ placesOf t set xs
   unfolding placesBefore placesOf elements
   places-all = refl
+
+-- places counted up to 65
+pub large-yes : (t : List ℕ) (set : ℕ) (xs : List ℕ) (r : ℕ) → min r 65 ≡ min (placesOf t set xs) 65 → 64 < r → large t set xs ≡ true
+unfolding large
+large-yes t set xs r e h = lt-ltb 64 (placesOf t set xs) (omega arith)

@@ -15,7 +15,7 @@ use Rattle.laws_triggers.specs.Match.{Body, Searchable}
 use Rattle.fact_index.specs.Index.{Indexed}
 use Rattle.new_triggers.specs.Unhandled.{Apart}
 use Rattle.form.specs.Places.{rulesOf, ruleOf}
-use Rattle.form_variables.specs.Sets.{elements}
+use Rattle.form_variables.specs.Sets.{has, elements}
 use Rattle.stage_large.specs.Stage.{triggersOf}
 use Rattle.stage_large.specs.Idle.{idle}
 use Rattle.stage_large.specs.declared.counts.Counts.{Counts}
@@ -24,6 +24,10 @@ use Rattle.laws.specs.Lists.{Distinct}
 -- the sizes of what the variables of a set stand for, together
 unfoldable pub placesOf : List ℕ → ℕ → List ℕ → ℕ
 placesOf terms set xs = total (sizeAt terms) (map (λ (v : ℕ). getD xs v 0) (elements set))
+
+-- so they are where the variables that are kept stand for what they do, and each other for a term of size `most`
+unfoldable pub placesAtMost : List ℕ → ℕ → ℕ → ℕ → List ℕ → ℕ
+placesAtMost terms set kept most xs = total (λ (v : ℕ). elim (has kept v) [ true ↦ sizeAt terms (getD xs v 0) | false ↦ most ]) (elements set)
 
 unfoldable pub large : List ℕ → ℕ → List ℕ → Bool
 large terms set xs = ltb placeLimit (placesOf terms set xs)
@@ -44,12 +48,13 @@ pub record HandledSmall (form : List ℕ) (l : Left) : Type 0 where
       → handled l (ruleOf form i) m ≡ true → ltb placeLimit (sum (sizeIn (length (l .rows .terms)) (l .rows .terms)) m) ≡ false
 
 -- a body's triggers over a stage can be searched for large ones
-pub record Sought (b : Body) (terms facts : List ℕ) (n : Counts) (index sizes : List ℕ) : Type 0 where
+pub record Sought (b : Body) (terms facts : List ℕ) (n : Counts) (index : List ℕ) (most : ℕ) (sizes : List ℕ) : Type 0 where
   pub searchable : Searchable b facts (n .facts) (n .terms)
   pub ordered : Ordered (n .terms) terms
   pub few : n .terms < 65536
   pub indexed : Indexed facts (n .facts) index
   pub apart : Apart b facts (n .facts) (n .old)
+  pub bounding : Bounding terms (n .terms) most
   pub measured : Measured terms sizes
 
 -- a rule is in question: it is blockable, and the stage has something new for it

@@ -113,6 +113,7 @@ any-large-requires c κs =
       apart = given-apart (a .form .now) (a .terms .now) (a .counts .terms) (a .facts .now) (a .counts .facts) (s .pre .0 .tabled) (l .loop .i) h (c .before .before .before .before .body .result)
           (c .before .before .before .body-arities .result) (c .before .before .body-count .result) (c .before .body-set .result) (c .before .before .before .before .body .ensures)
           (c .before .before .before .body-arities .ensures) (c .before .before .body-count .ensures) (c .before .body-set .ensures) (s .pre .1 .once) (a .counts .old);
+      bounding = l .before .greatest .ensures;
       measured = l .loop .inv .4;
     }
 
@@ -170,7 +171,7 @@ loop-again c =
           ∙ behind,
       next-blockable next,
       subst (Measured (a .terms .now)) (sym (w .9)) (w .6 .ensures .1),
-      ap length (w .9) ∙ w .6 .kept .1 .1 .1 .1 .1 .1 .1 .1 .0 ∙ l .loop .inv .5,
+      ap length (w .9) ∙ w .6 .kept .1 .1 .1 .1 .1 .1 .1 .1 .1 .0 ∙ l .loop .inv .5,
     ))
     (λ w. (
       omega (arith, next .within, l .loop .inv .1),
