@@ -1,5 +1,7 @@
 //! Families of rule sets that grow.
 
+use crate::paths;
+use crate::stars::{self, FOUR, SEVEN};
 use reference::draft::{Draft, Sketch};
 
 pub struct Family {
@@ -7,12 +9,55 @@ pub struct Family {
     /// What the size counts.
     pub size: &'static str,
     pub depth: usize,
-    /// Each size with its rule sets, which are timed together.
-    pub members: Vec<(usize, Vec<Vec<u8>>)>,
+    pub members: Vec<Member>,
 }
 
-fn family(name: &'static str, size: &'static str, sizes: &[usize], book: fn(usize) -> Draft) -> Family {
-    let members = sizes.iter().map(|&n| (n, vec![book(n).book.bytes()])).collect();
+/// Rule sets that are timed together.
+pub struct Member {
+    pub size: usize,
+    pub books: Vec<Vec<u8>>,
+    /// Whether the reference is timed beside the library.
+    pub beside: bool,
+}
+
+/// A family's name, what its size counts, the sizes that are timed with both, those for which the reference takes too
+/// long, and the rule set of a size.
+type Row = (&'static str, &'static str, &'static [usize], &'static [usize], fn(usize) -> Draft);
+
+/// A star that is blockable or blocked has a trigger to test for every choice of its legs: (4n + 1)⁴ for n rules of four,
+/// (4n + 1)³ for n of seven. As long as each is gone through, the sizes of the other stars would take hours.
+const ROWS: &[Row] = &[
+    ("Crowd", "new variables", &[1, 2, 3, 4, 5, 6], &[], crowd),
+    ("Host", "new variables", &[1, 2, 3, 4, 6, 7], &[], host),
+    ("Fork", "doublings", &[1, 2, 3, 4, 5, 6], &[], fork),
+    ("Chain", "links", &[2, 4, 8, 16], &[], paths::chain),
+    ("Predicates", "predicates", &[8, 16, 32, 64], &[], predicates),
+    ("Joins", "predicates", &[8, 16, 32, 64], &[], joins),
+    ("Large terms", "terms", &[1, 2, 4, 8], &[], large_terms),
+    ("Limits", "rules", &[16, 32, 64], &[], limits),
+    ("Cross", "terms", &[3, 6, 12, 13], &[], |n| cross(n, 0)),
+    ("Cross, last", "terms", &[1, 2, 4], &[], |n| cross(n, 7)),
+    ("Star 4, Datalog", "rules", &[8, 16, 32, 62], &[], |n| stars::datalog(&FOUR, n, FOUR.last)),
+    ("Star 4, existential", "rules", &[8, 16, 32, 62], &[], |n| stars::existential(&FOUR, n)),
+    ("Star 4, blockable", "rules", &[1, 2, 4], &[], |n| stars::blockable(&FOUR, n)),
+    ("Star 4, blocked", "rules", &[1, 2, 4], &[], |n| stars::blocked(&FOUR, n)),
+    ("Star 7, Datalog", "rules", &[8, 16, 32, 62], &[], |n| stars::datalog(&SEVEN, n, SEVEN.last)),
+    // 46 rules have 508 terms
+    ("Star 7, existential", "rules", &[8, 16, 32, 46], &[], |n| stars::existential(&SEVEN, n)),
+    ("Star 7, blockable", "rules", &[1, 2, 4, 8], &[], |n| stars::blockable(&SEVEN, n)),
+    ("Star 7, blocked", "rules", &[1, 2, 4, 8], &[], |n| stars::blocked(&SEVEN, n)),
+    ("Star 4, centre", "rules", &[8, 16, 32, 62], &[], |n| stars::datalog(&FOUR, n, 0)),
+    ("Star 4, first", "rules", &[8, 16, 32, 62], &[], |n| stars::datalog(&FOUR, n, FOUR.first)),
+    ("Star 4, middle", "rules", &[8, 16, 32, 62], &[], |n| stars::datalog(&FOUR, n, 2)),
+    ("Path, first", "links", &[4, 8, 16, 31], &[], |n| paths::path(n, 0)),
+    ("Path, middle", "links", &[4, 8, 16, 31], &[], |n| paths::path(n, 2)),
+    ("Path, last", "links", &[4, 8, 16, 31], &[], |n| paths::path(n, 4)),
+    ("Tree", "levels", &[4, 5, 6, 7], &[], paths::tree),
+];
+
+fn family(&(name, size, both, alone, book): &Row) -> Family {
+    let sizes = both.iter().map(|&n| (n, true)).chain(alone.iter().map(|&n| (n, false)));
+    let members = sizes.map(|(n, beside)| Member { size: n, books: vec![book(n).book.bytes()], beside }).collect();
     Family { name, size, depth: 1, members }
 }
 
@@ -72,21 +117,6 @@ fn fork(count: usize) -> Draft {
     let last = doublings(&mut draft, count);
     let (a, b) = (draft.predicate(1), draft.predicate(1));
     draft.rule(&[(last, &[0, 0])], &[&[(a, &[0])], &[(b, &[0])]]);
-    draft
-}
-
-/// A chain of `links` existential rules, closed under transitivity.
-fn chain(links: usize) -> Draft {
-    let mut draft = Draft::default();
-    let (e, t) = (draft.predicate(2), draft.predicate(2));
-    let mut p = draft.predicate(1);
-    for _ in 0..links {
-        let next = draft.predicate(1);
-        draft.rule(&[(p, &[0])], &[&[(e, &[0, 1]), (next, &[1])]]);
-        p = next;
-    }
-    draft.rule(&[(e, &[0, 1])], &[&[(t, &[0, 1])]]);
-    draft.rule(&[(t, &[0, 1]), (e, &[1, 2])], &[&[(t, &[0, 2])]]);
     draft
 }
 
@@ -154,14 +184,6 @@ fn cross(new: usize, wanted: u8) -> Draft {
     draft.rule(&[(t, &[0]), (t, &[1])], &[&[(r, &[0, 1])]]);
     draft.rule(&[(r, &[0, 1]), (r, &[2, 3]), (r, &[4, 5]), (r, &[6, 7])], &[&[(d, &[wanted])]]);
     draft
-}
-
-fn cross_first(new: usize) -> Draft {
-    cross(new, 0)
-}
-
-fn cross_last(new: usize) -> Draft {
-    cross(new, 7)
 }
 
 /// A Datalog rule from `body` to as many predicates of their own over `over`, at most four.
@@ -254,6 +276,11 @@ fn pedigrees(lines: usize) -> Draft {
     draft
 }
 
+/// A family of one size.
+fn single(name: &'static str, size: &'static str, count: usize, books: Vec<Vec<u8>>) -> Family {
+    Family { name, size, depth: 1, members: vec![Member { size: count, books, beside: true }] }
+}
+
 /// The rule sets of a folder of vectors, cut as the program cuts its input.
 fn vectors(folder: &str) -> std::io::Result<Family> {
     let mut names: Vec<_> =
@@ -266,31 +293,21 @@ fn vectors(folder: &str) -> std::io::Result<Family> {
         bytes.truncate(reference::print::HANDED);
         books.push(bytes);
     }
-    Ok(Family { name: "Vectors", size: "rule sets", depth: 1, members: vec![(books.len(), books)] })
+    Ok(single("Vectors", "rule sets", books.len(), books))
 }
 
 /// One vector, for the blocking tests that it stands for; its size counts them.
 fn tests(name: &'static str, folder: &str, file: &str) -> std::io::Result<Family> {
     let bytes = std::fs::read(format!("{folder}/{file}.book"))?;
     let count = reference::check(&bytes).seen.tested;
-    Ok(Family { name, size: "tests", depth: 1, members: vec![(count, vec![bytes])] })
+    Ok(single(name, "tests", count, vec![bytes]))
 }
 
 pub fn families(folder: &str) -> std::io::Result<Vec<Family>> {
-    Ok(vec![
-        family("Crowd", "new variables", &[1, 2, 3, 4, 5, 6], crowd),
-        family("Host", "new variables", &[1, 2, 3, 4, 6, 7], host),
-        family("Fork", "doublings", &[1, 2, 3, 4, 5, 6], fork),
-        family("Chain", "links", &[2, 4, 8, 16], chain),
-        family("Predicates", "predicates", &[8, 16, 32, 64], predicates),
-        family("Joins", "predicates", &[8, 16, 32, 64], joins),
-        family("Large terms", "terms", &[1, 2, 4, 8], large_terms),
-        family("Limits", "rules", &[16, 32, 64], limits),
-        family("Cross", "terms", &[3, 6, 12, 13], cross_first),
-        family("Cross, last", "terms", &[1, 2, 4], cross_last),
-        Family { depth: 3, ..family("Pedigrees, depth 3", "lines", &[5, 10, 20], pedigrees) },
-        tests("Tests of up to 63 places", folder, "fork-5")?,
-        tests("Test of 1,024 facts", folder, "test-set-1024")?,
-        vectors(folder)?,
-    ])
+    let mut families: Vec<Family> = ROWS.iter().map(family).collect();
+    families.push(Family { depth: 3, ..family(&("Pedigrees, depth 3", "lines", &[5, 10, 20], &[], pedigrees)) });
+    families.push(tests("Tests of up to 63 places", folder, "fork-5")?);
+    families.push(tests("Test of 1,024 facts", folder, "test-set-1024")?);
+    families.push(vectors(folder)?);
+    Ok(families)
 }

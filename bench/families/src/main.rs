@@ -1,123 +1,166 @@
 //! Times `check` of the static library beside the reference. A test instrument: unproved.
 //!
-//!     families FOLDER [--times]
+//!     families FOLDER [--times] [--only NAME]
+//!
+//! FOLDER has the vectors. --only leaves the families whose names begin so.
 //!
 //! Both get the bytes and lent lists, and read, check and fill the lists. The lists are not cleared between runs: each
 //! check clears their front parts itself. A time is the best of several runs, which take turns; a size whose first run
-//! is over the patience is the last of its family.
+//! is over the patience is the last of its family. Where the reference would take too long the library is timed alone,
+//! and its answer is compared with nothing.
 
 mod books;
+mod paths;
+mod stars;
+mod timing;
 
+use books::Family;
 use reference::Verdict;
-use std::time::{Duration, Instant};
+use std::time::Duration;
+use timing::{Bench, PATIENCE};
 
-const SPAN: Duration = Duration::from_millis(300);
-const PATIENCE: Duration = Duration::from_secs(20);
-
-struct Lists {
-    terms: Vec<u16>,
-    facts: Vec<u16>,
+/// What was measured at one size.
+struct Times {
+    size: usize,
+    /// As many as the answer says.
+    facts: Option<usize>,
+    rust: Option<Duration>,
+    rattle: Duration,
 }
 
-fn reference_check(book: &[u8], depth: usize, lists: &mut Lists) -> Verdict {
-    reference::check_into(book, depth, &mut lists.terms, &mut lists.facts)
+fn over(a: Duration, b: Duration) -> f64 {
+    a.as_secs_f64() / b.as_secs_f64()
 }
 
-fn library_check(book: &[u8], depth: usize, lists: &mut Lists) -> Verdict {
-    match rulfjen::lists::check(book, depth, &mut lists.terms, &mut lists.facts) {
-        rulfjen::Verdict::Accepted { stage, facts, terms } => Verdict::Accepted { stage, facts, terms },
-        rulfjen::Verdict::Cyclic { stage, facts, terms } => Verdict::Cyclic { stage, facts, terms },
-        rulfjen::Verdict::Refused(refusal) => Verdict::Refused { number: refusal.number, place: refusal.place },
+/// How many times longer than at half the size.
+fn growth(before: &[Times], size: usize, now: Option<Duration>, of: fn(&Times) -> Option<Duration>) -> String {
+    let half = before.iter().find(|times| times.size * 2 == size).and_then(of);
+    match (now, half) {
+        (None, _) => "-".to_string(),
+        (Some(now), Some(half)) => format!("{:.1}", over(now, half)),
+        (Some(_), None) => String::new(),
     }
 }
 
-type Check = fn(&[u8], usize, &mut Lists) -> Verdict;
-
-fn time(check: Check, books: &[Vec<u8>], depth: usize, lists: &mut Lists) -> Duration {
-    let start = Instant::now();
-    for book in books {
-        std::hint::black_box(check(std::hint::black_box(book), depth, lists));
+/// The power of the facts with which the library's time grew since the size before.
+fn power(before: &[Times], now: &Times) -> String {
+    let Some(last) = before.last() else { return String::new() };
+    match (last.facts, now.facts) {
+        (Some(few), Some(many)) if few < many => {
+            format!("{:.1}", over(now.rattle, last.rattle).ln() / (many as f64 / few as f64).ln())
+        }
+        _ => String::new(),
     }
-    start.elapsed()
 }
 
-/// Whether both give the same answers and lists.
-fn agree(books: &[Vec<u8>], depth: usize, ours: &mut Lists, theirs: &mut Lists) -> bool {
-    books.iter().all(|book| {
-        reference_check(book, depth, ours) == library_check(book, depth, theirs)
-            && ours.terms == theirs.terms
-            && ours.facts == theirs.facts
-    })
+fn facts(verdict: Verdict) -> Option<usize> {
+    match verdict {
+        Verdict::Accepted { facts, .. } | Verdict::Cyclic { facts, .. } => Some(facts),
+        Verdict::Refused { .. } => None,
+    }
 }
 
-fn answer(books: &[Vec<u8>], depth: usize, lists: &mut Lists) -> String {
-    if books.len() > 1 {
-        return "all".to_string();
-    }
-    match reference_check(&books[0], depth, lists) {
+fn text(verdict: Verdict) -> String {
+    match verdict {
         Verdict::Accepted { stage, facts, terms } => format!("accepted {stage} {facts} {terms}"),
         Verdict::Cyclic { stage, facts, terms } => format!("cyclic {stage} {facts} {terms}"),
         Verdict::Refused { number, place } => format!("refused {number} {place}"),
     }
 }
 
-/// How many times longer than at half the size.
-fn growth(times: &[(usize, Duration)], size: usize, now: Duration) -> String {
-    match times.iter().find(|(half, _)| half * 2 == size) {
-        Some((_, before)) => format!("{:.1}", now.as_secs_f64() / before.as_secs_f64()),
-        None => String::new(),
-    }
+const COLUMNS: [&str; 7] = [
+    "family",
+    "size",
+    "answer",
+    "Rattle : Rust",
+    "Rust, size doubled",
+    "Rattle, size doubled",
+    "Rattle, power of the facts",
+];
+
+fn line(cells: &[String]) {
+    println!("| {} |", cells.join(" | "));
 }
 
-fn main() -> std::io::Result<()> {
-    let words: Vec<String> = std::env::args().skip(1).collect();
-    let folder = words.first().expect("usage: families FOLDER [--times]");
-    let with_times = words.iter().any(|word| word == "--times");
-    let lists = || Lists { terms: vec![0; rulfjen::TERMS], facts: vec![0; rulfjen::FACTS] };
-    let (mut ours, mut theirs) = (lists(), lists());
-    let mut worst = (0.0, String::new());
-    let mut good = true;
-    println!(
-        "| family | size | answer | Rattle : Rust | Rust, size doubled | Rattle, size doubled |{}",
-        if with_times { " Rust µs | Rattle µs |" } else { "" }
-    );
-    println!("|---|---|---|---|---|---|{}", if with_times { "---|---|" } else { "" });
-    for family in books::families(folder)? {
-        let (mut rust_times, mut rattle_times) = (Vec::new(), Vec::new());
-        for (size, books) in &family.members {
-            if !agree(books, family.depth, &mut ours, &mut theirs) {
+/// The table, and whether all answers agree.
+struct Table {
+    with_times: bool,
+    worst: (f64, String),
+    good: bool,
+}
+
+impl Table {
+    fn heading(&self) {
+        let times = ["Rust µs", "Rattle µs"];
+        let columns = COLUMNS.iter().chain(times.iter().filter(|_| self.with_times));
+        let names: Vec<String> = columns.map(|name| name.to_string()).collect();
+        line(&names);
+        println!("|{}", "---|".repeat(names.len()));
+    }
+
+    fn family(&mut self, family: &Family, bench: &mut Bench) {
+        let mut before: Vec<Times> = Vec::new();
+        for member in &family.members {
+            let size = member.size;
+            if member.beside && !bench.agree(member, family.depth) {
                 println!("{} {size}: the answers differ", family.name);
-                good = false;
+                self.good = false;
                 break;
             }
-            let (mut rust, mut rattle) = (Duration::MAX, Duration::MAX);
-            let start = Instant::now();
-            let mut runs = 0;
-            while runs < 5 && start.elapsed() < PATIENCE || start.elapsed() < SPAN {
-                rust = rust.min(time(reference_check, books, family.depth, &mut ours));
-                rattle = rattle.min(time(library_check, books, family.depth, &mut theirs));
-                runs += 1;
-            }
-            let ratio = rattle.as_secs_f64() / rust.as_secs_f64();
-            let answer = answer(books, family.depth, &mut ours);
-            let (of_rust, of_rattle) = (growth(&rust_times, *size, rust), growth(&rattle_times, *size, rattle));
-            let times = format!(" {:.1} | {:.1} |", rust.as_secs_f64() * 1e6, rattle.as_secs_f64() * 1e6);
-            println!(
-                "| {} | {size} {} | {answer} | {ratio:.2} | {of_rust} | {of_rattle} |{}",
-                family.name,
-                family.size,
-                if with_times { times.as_str() } else { "" }
-            );
-            if ratio > worst.0 {
-                worst = (ratio, format!("{} {size}", family.name));
-            }
-            rust_times.push((*size, rust));
-            rattle_times.push((*size, rattle));
+            let (rust, rattle) = bench.best(member, family.depth);
+            let verdict = (member.books.len() == 1).then(|| bench.answer(member, family.depth));
+            let now = Times { size, facts: verdict.and_then(facts), rust, rattle };
+            self.row(family, &before, &now, verdict.map_or("all".to_string(), text));
+            before.push(now);
             if rattle > PATIENCE {
                 break;
             }
         }
     }
-    println!("\nThe largest ratio: {:.2}, {}.", worst.0, worst.1);
-    std::process::exit(!good as i32);
+
+    fn row(&mut self, family: &Family, before: &[Times], now: &Times, answer: String) {
+        let ratio = now.rust.map(|rust| over(now.rattle, rust));
+        let mut cells = vec![
+            family.name.to_string(),
+            format!("{} {}", now.size, family.size),
+            answer,
+            ratio.map_or("-".to_string(), |ratio| format!("{ratio:.2}")),
+            growth(before, now.size, now.rust, |times| times.rust),
+            growth(before, now.size, Some(now.rattle), |times| Some(times.rattle)),
+            power(before, now),
+        ];
+        if self.with_times {
+            let micros = |time: Duration| format!("{:.1}", time.as_secs_f64() * 1e6);
+            cells.push(now.rust.map_or("-".to_string(), micros));
+            cells.push(micros(now.rattle));
+        }
+        line(&cells);
+        if ratio.is_some_and(|ratio| ratio > self.worst.0) {
+            self.worst = (ratio.unwrap(), format!("{} {}", family.name, now.size));
+        }
+    }
+}
+
+/// The word behind an option.
+fn option<'a>(words: &'a [String], name: &str) -> Option<&'a str> {
+    let at = words.iter().position(|word| word == name)?;
+    Some(words.get(at + 1).expect("a word behind each option"))
+}
+
+fn main() -> std::io::Result<()> {
+    let words: Vec<String> = std::env::args().skip(1).collect();
+    let folder = words.first().expect("usage: families FOLDER [--times] [--only NAME]");
+    let mut families = books::families(folder)?;
+    if let Some(name) = option(&words, "--only") {
+        families.retain(|family| family.name.starts_with(name));
+    }
+    let with_times = words.iter().any(|word| word == "--times");
+    let mut table = Table { with_times, worst: (0.0, String::new()), good: true };
+    let mut bench = Bench::default();
+    table.heading();
+    for family in &families {
+        table.family(family, &mut bench);
+    }
+    println!("\nThe largest ratio: {:.2}, {}.", table.worst.0, table.worst.1);
+    std::process::exit(!table.good as i32);
 }
