@@ -1,6 +1,6 @@
 //! One rule set through the reference and through the library.
 
-use crate::random::Random;
+use differential::random::Random;
 use reference::{form, stages, Verdict};
 use rulfjen::lists;
 

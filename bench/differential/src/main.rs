@@ -5,11 +5,9 @@
 //!     differential SEED only INDEX         one of them, written to standard output
 
 mod compare;
-mod generate;
-mod random;
 
-use generate::Class;
-use random::Random;
+use differential::generate::{self, Class};
+use differential::random::Random;
 use reference::Verdict;
 use std::collections::BTreeMap;
 use std::io::Write;

@@ -2,6 +2,8 @@
 
 use crate::paths;
 use crate::stars::{self, FOUR, SEVEN};
+use differential::generate::generate;
+use differential::random::Random;
 use reference::draft::{Draft, Sketch};
 
 pub struct Family {
@@ -303,11 +305,19 @@ fn tests(name: &'static str, folder: &str, file: &str) -> std::io::Result<Family
     Ok(single(name, "tests", count, vec![bytes]))
 }
 
+/// A rule set of the differential test, by its number.
+fn generated(number: usize) -> Family {
+    let (_, book) = generate(&mut Random::new(1115, number as u64));
+    single("Generated, slowest", "of seed 1115", number, vec![book])
+}
+
 pub fn families(folder: &str) -> std::io::Result<Vec<Family>> {
     let mut families: Vec<Family> = ROWS.iter().map(family).collect();
     families.push(Family { depth: 3, ..family(&("Pedigrees, depth 3", "lines", &[5, 10, 20], &[], pedigrees)) });
     families.push(tests("Tests of up to 63 places", folder, "fork-5")?);
     families.push(tests("Test of 1,024 facts", folder, "test-set-1024")?);
+    // of the first 20,000, at depth 1
+    families.extend([13916, 11204, 2408].map(generated));
     families.push(vectors(folder)?);
     Ok(families)
 }

@@ -2,12 +2,7 @@
 //!
 //!     columns_differential [SEED [COUNT]]      generated tables and stores from a seed, 20,000 by default
 
-// not all of it is used here
-#[allow(dead_code)]
-#[path = "../random.rs"]
-mod random;
-
-use random::Random;
+use differential::random::Random;
 use reference::columns;
 use reference::stages::{FACTS_FRONT, TERMS_FRONT};
 use rulfjen::columns::lists;
