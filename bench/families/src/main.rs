@@ -1,6 +1,7 @@
 //! Times `check` of the static library beside the reference. A test instrument: unproved.
 //!
-//!     families FOLDER [--times] [--only NAME]
+//!     families FOLDER [--only NAME] [--times]
+//!     families FOLDER [--only NAME] --books OUT     times nothing and writes the rule sets as files (see `export`)
 //!
 //! FOLDER has the vectors. --only leaves the families whose names begin so.
 //!
@@ -9,7 +10,9 @@
 //! is over the patience is the last of its family. Where the reference would take too long the library is timed alone,
 //! and its answer is compared with nothing.
 
+mod asp;
 mod books;
+mod export;
 mod paths;
 mod stars;
 mod timing;
@@ -149,10 +152,13 @@ fn option<'a>(words: &'a [String], name: &str) -> Option<&'a str> {
 
 fn main() -> std::io::Result<()> {
     let words: Vec<String> = std::env::args().skip(1).collect();
-    let folder = words.first().expect("usage: families FOLDER [--times] [--only NAME]");
+    let folder = words.first().expect("usage: families FOLDER [--only NAME] [--times | --books OUT]");
     let mut families = books::families(folder)?;
     if let Some(name) = option(&words, "--only") {
         families.retain(|family| family.name.starts_with(name));
+    }
+    if let Some(out) = option(&words, "--books") {
+        return export::write(&families, out.as_ref());
     }
     let with_times = words.iter().any(|word| word == "--times");
     let mut table = Table { with_times, worst: (0.0, String::new()), good: true };
