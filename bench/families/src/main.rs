@@ -138,8 +138,8 @@ impl Table {
             cells.push(micros(now.rattle));
         }
         line(&cells);
-        if ratio.is_some_and(|ratio| ratio > self.worst.0) {
-            self.worst = (ratio.unwrap(), format!("{} {}", family.name, now.size));
+        if let Some(ratio) = ratio.filter(|&ratio| ratio > self.worst.0) {
+            self.worst = (ratio, format!("{} {}", family.name, now.size));
         }
     }
 }
