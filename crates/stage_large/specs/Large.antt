@@ -3,10 +3,10 @@
 use mathlib.Core.Path.{_≡_}
 use mathlib.Core.List.{List, map, List·Memᴰ}
 use mathlib.Core.Bool.{Bool, true, false, not, _&&_}
-use Prim.Native.Nat.{ℕ, min, _≤_, _<_}
+use Prim.Native.Nat.{ℕ, zero, suc, min, max, _≤_, _<_}
 use lib.Dec.{ltb}
 use lib.ListN.{length, getD}
-use Rattle.model.specs.Limits.{placeLimit}
+use Rattle.model.specs.Limits.{placeLimit, termLimit}
 use Rattle.model.specs.Rules.{Rule, blockable}
 use Rattle.rows.specs.Judging.{total as sum, sizeIn}
 use Rattle.rows.specs.Making.{Left, handled}
@@ -35,6 +35,15 @@ large terms set xs = ltb placeLimit (placesOf terms set xs)
 -- sizes that were found, by the terms' numbers, none above 65: 0 for a term that was not measured
 abbrev pub Measured : List ℕ → List ℕ → Type 0
 Measured terms sizes = (i : ℕ) → 0 < getD sizes i 0 → getD sizes i 0 ≡ min (sizeAt terms i) 65
+
+-- the greatest size of the first n terms, where 65 stands for every size from 65 on
+unfoldable pub greatestSize : List ℕ → ℕ → ℕ
+greatestSize terms zero = 0
+greatestSize terms (suc n) = max (greatestSize terms n) (min (sizeAt terms n) 65)
+
+-- above 512 terms, none of which is measured then, 65
+unfoldable pub mostSize : List ℕ → ℕ → ℕ
+mostSize terms n = elim (ltb termLimit n) [ true ↦ 65 | false ↦ greatestSize terms n ]
 
 -- no size of the first n terms is above `most`, where 65 stands for every size from 65 on
 abbrev pub Bounding : List ℕ → ℕ → ℕ → Type 0

@@ -17,7 +17,7 @@ use Rattle.stage_large.specs.Large.{Measured}
 use Rattle.stage_large.specs.Stage.{tables}
 use Rattle.stage_large.proofs.Sizes.{largeRule, tooLargeAt-rules, given-searchable, given-apart, large-rule, no-large}
 use Rattle.stage_large.proofs.Places.{measured-none}
-use Rattle.stage_large.proofs.Bounds.{bounded-not-large}
+use Rattle.stage_large.proofs.Bounds.{most-bounding, bounded-not-large}
 use Rattle.stage_large.proofs.Oversize.{given-large}
 use Rattle.stage_large.proofs.Question.{next-blockable, next-decides}
 use Rattle.stage_large.proofs.large.too_large.Statement.{statement}
@@ -72,7 +72,8 @@ loop-holds c =
 can-be-large-requires : tie.Need-can-be-large-requires Inv-loop μ-loop
 can-be-large-requires c κs =
     let l = c .before in
-    (l .before .before .before .before .before .before .before .before .before .pre .0 .tabled .held, omega arith, l .before .greatest .ensures .0)
+    let s = l .before .before .before .before .before .before .before .before .before in
+    (s .pre .0 .tabled .held, omega arith, most-bounding (s .args .terms .now) (s .args .counts .terms) (l .before .greatest .ensures) .0)
 
 body-requires : tie.Need-body-requires Inv-loop μ-loop
 body-requires c κs =
@@ -113,7 +114,7 @@ any-large-requires c κs =
       apart = given-apart (a .form .now) (a .terms .now) (a .counts .terms) (a .facts .now) (a .counts .facts) (s .pre .0 .tabled) (l .loop .i) h (c .before .before .before .before .body .result)
           (c .before .before .before .body-arities .result) (c .before .before .body-count .result) (c .before .body-set .result) (c .before .before .before .before .body .ensures)
           (c .before .before .before .body-arities .ensures) (c .before .before .body-count .ensures) (c .before .body-set .ensures) (s .pre .1 .once) (a .counts .old);
-      bounding = l .before .greatest .ensures;
+      bounding = most-bounding (a .terms .now) (a .counts .terms) (l .before .greatest .ensures);
       measured = l .loop .inv .4;
     }
 
@@ -178,7 +179,7 @@ loop-again c =
       l .loop .inv .1,
       l .loop .inv .2
           ∙ passed
-          (bounded-not-large (a .form .now) (a .terms .now) (a .counts .terms) (a .facts .now) (a .counts .facts) (s .pre .0 .tabled) (l .before .greatest .result) (l .before .greatest .ensures)
+          (bounded-not-large (a .form .now) (a .terms .now) (a .counts .terms) (a .facts .now) (a .counts .facts) (s .pre .0 .tabled) (l .before .greatest .result) (most-bounding (a .terms .now) (a .counts .terms) (l .before .greatest .ensures))
           (ruleOf (a .form .now) (l .loop .i)) (sym (c .before .before .can-be-large .ensures) ∙ w .0 .left))
           ∙ behind,
       next-blockable next,
