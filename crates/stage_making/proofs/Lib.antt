@@ -2,7 +2,9 @@ pub mod Starred
 pub mod Most
 pub mod Stays
 pub mod After
+pub mod Spent
 pub mod Unhandled
 pub mod Skipping
+pub mod Settled
 pub mod Coming
 pub mod Visits

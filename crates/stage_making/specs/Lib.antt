@@ -1,4 +1,5 @@
 pub mod Starred
 pub mod Stage
+pub mod Spent
 pub mod Trigger
 pub mod Plan

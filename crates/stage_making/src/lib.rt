@@ -1,4 +1,5 @@
-// What the making of a rule's triggers asks and leaves, behind a stage that is left; and one trigger made. The contracts cite specs/Stage and
-// specs/Trigger.
+// What the making of a rule's triggers asks and leaves, behind a stage that is left; and one trigger made. The contracts cite specs/Stage,
+// specs/Spent and specs/Trigger.
+pub mod frontier;
 pub mod progress;
 pub mod trigger;

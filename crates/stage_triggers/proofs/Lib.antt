@@ -1,1 +1,3 @@
+pub mod Bounded
 pub mod Planned
+pub mod Reasons
