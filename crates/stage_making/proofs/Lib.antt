@@ -6,5 +6,6 @@ pub mod Spent
 pub mod Unhandled
 pub mod Skipping
 pub mod Settled
+pub mod Outputs
 pub mod Coming
 pub mod Visits

@@ -1,4 +1,5 @@
 pub mod Starred
+pub mod Standing
 pub mod Stage
 pub mod Spent
 pub mod Trigger

@@ -2,4 +2,5 @@
 // specs/Spent and specs/Trigger.
 pub mod frontier;
 pub mod progress;
+pub mod standing;
 pub mod trigger;
