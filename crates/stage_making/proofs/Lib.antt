@@ -7,5 +7,6 @@ pub mod Unhandled
 pub mod Skipping
 pub mod Settled
 pub mod Outputs
+pub mod Nothing
 pub mod Coming
 pub mod Visits

@@ -4,3 +4,4 @@ pub mod Stage
 pub mod Spent
 pub mod Trigger
 pub mod Plan
+pub mod Nothing
