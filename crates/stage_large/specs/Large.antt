@@ -3,7 +3,7 @@
 use mathlib.Core.Path.{_≡_}
 use mathlib.Core.List.{List, map, List·Memᴰ}
 use mathlib.Core.Bool.{Bool, true, false, not, _&&_}
-use Prim.Native.Nat.{ℕ, zero, suc, min, max, _≤_, _<_}
+use Prim.Native.Nat.{ℕ, zero, suc, min, max, _+_, _≤_, _<_}
 use lib.Dec.{ltb}
 use lib.ListN.{length, getD}
 use Rattle.model.specs.Limits.{placeLimit, termLimit}
@@ -48,6 +48,14 @@ mostSize terms n = elim (ltb termLimit n) [ true ↦ 65 | false ↦ greatestSize
 -- no size of the first n terms is above `most`, where 65 stands for every size from 65 on
 abbrev pub Bounding : List ℕ → ℕ → ℕ → Type 0
 Bounding terms n most = (most ≤ 65) × ((i : ℕ) → i < n → min (sizeAt terms i) 65 ≤ most)
+
+-- a trigger over the first n terms that has at least `slack` places left below the limit, where no size is above `most`
+pub record WithSlack (terms : List ℕ) (n set : ℕ) (xs : List ℕ) (most slack : ℕ) (sizes : List ℕ) : Type 0 where
+  pub ordered : Ordered n terms
+  pub within : (v : ℕ) → getD xs v 0 < n
+  pub measured : Measured terms sizes
+  pub bounding : Bounding terms n most
+  pub left : placesOf terms set xs + slack ≤ placeLimit
 
 -- a stage whose facts stand once, and whose handled triggers are not too large
 pub record HandledSmall (form : List ℕ) (l : Left) : Type 0 where

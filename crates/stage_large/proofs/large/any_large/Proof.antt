@@ -137,7 +137,13 @@ kept-requires c κs =
     let q = c .before .before .before .before in
     let f = first (q .before) in
     let s = start (made f) in
-    (s .pre .ordered, comes f .within (found (q .before)), q .places .ensures .1, s .pre .bounding, omega (arith, q .places .ensures .0, c .before .if2 .left))
+    record {
+      ordered = s .pre .ordered;
+      within = comes f .within (found (q .before));
+      measured = q .places .ensures .1;
+      bounding = s .pre .bounding;
+      left = omega (arith, q .places .ensures .0, c .before .if2 .left);
+    }
 
 -- the trigger is passed for the variables that keep its places, and the walk goes on behind it
 module _ (c : tie.After-plan-for Inv-loop μ-loop) where

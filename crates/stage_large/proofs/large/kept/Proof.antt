@@ -20,7 +20,7 @@ loop-holds : tie.Need-loop-holds Inv-loop μ-loop
 loop-holds c =
     let s = c .before .before in
     let a = s .args in
-    (omega arith, omega (arith, all-kept (a .terms .now) (a .set) (a .most) (a .t4), s .pre .4), s .pre .2, refl)
+    (omega arith, omega (arith, all-kept (a .terms .now) (a .set) (a .most) (a .t4), s .pre .left), s .pre .measured, refl)
 
 -- the trigger's term at the variable is one of the stage
 module _ (c : tie.Then1 Inv-loop μ-loop) where
@@ -31,7 +31,7 @@ module _ (c : tie.Then1 Inv-loop μ-loop) where
   start = loop .before .before .before
 
   below : getD (start .args .t4) (loop .loop .v - 1) 0 < start .args .count
-  below = start .pre .1 (loop .loop .v - 1)
+  below = start .pre .within (loop .loop .v - 1)
 
 cast-term : tie.Need-cast-term Inv-loop μ-loop
 cast-term c =
@@ -40,12 +40,12 @@ cast-term c =
     omega arith
 
 size-of-requires : tie.Need-size-of-requires Inv-loop μ-loop
-size-of-requires c κs = (start (c .before) .pre .0, below (c .before), loop (c .before) .loop .inv .2)
+size-of-requires c κs = (start (c .before) .pre .ordered, below (c .before), loop (c .before) .loop .inv .2)
 
 sub-cost : tie.Need-sub-cost Inv-loop μ-loop
 sub-cost c =
     let t = c .before .before .before .before in
-    omega (arith, c .before .before .size-of .ensures .0, start t .pre .3 .1 (getD (start t .args .t4) (loop t .loop .v - 1) 0) (below t))
+    omega (arith, c .before .before .size-of .ensures .0, start t .pre .bounding .1 (getD (start t .args .t4) (loop t .loop .v - 1) 0) (below t))
 
 loop-again : tie.Need-loop-again Inv-loop μ-loop
 loop-again c =
