@@ -1,10 +1,10 @@
-pub mod Starred
 pub mod Most
 pub mod Stays
 pub mod After
-pub mod Spent
 pub mod Unhandled
 pub mod Skipping
+pub mod Pending
+pub mod Spent
 pub mod Settled
 pub mod Outputs
 pub mod Nothing

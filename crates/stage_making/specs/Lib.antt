@@ -1,7 +1,6 @@
-pub mod Starred
-pub mod Standing
 pub mod Stage
 pub mod Spent
+pub mod Pending
 pub mod Trigger
 pub mod Plan
 pub mod Nothing

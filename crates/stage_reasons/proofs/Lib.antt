@@ -1,0 +1,3 @@
+pub mod Disjuncts
+pub mod Starred
+pub mod Blocked

@@ -1,0 +1,4 @@
+pub mod Standing
+pub mod Starred
+pub mod Decisive
+pub mod Reason
