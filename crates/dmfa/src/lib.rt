@@ -43,7 +43,7 @@ const LARGE_ROOM: usize = 105264;
 const FACTS_ROOM: usize = 13318;
 
 // A form, and how many Skolem functions come before each of 64 times four disjuncts.
-const FORM_LENGTH: usize = 6850;
+const FORM_LENGTH: usize = 7812;
 
 const DISJUNCTS: usize = 256;
 

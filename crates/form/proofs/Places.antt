@@ -9,6 +9,7 @@ use Rattle.model.specs.Rules.{Atom, Rule}
 use Rattle.model.specs.WellFormed.{WellFormedAtom, WellFormedAtoms, WellFormedRule}
 use Rattle.model.specs.Limits.{predicateLimit, ruleLimit, factWidth}
 use Rattle.model.specs.Form.{groupWidth, ruleWidth, aritiesPlace, spaced, decoded, atomAt, groupAt, ruleAt}
+use Rattle.laws.proofs.WellFormed.{predicates-few}
 use Rattle.laws.proofs.Lists.{getD-mem}
 use Rattle.laws.proofs.Places.{length-numbersFrom, getD-numbersFrom, length-spaced}
 use Rattle.form.specs.Places.{rulePlace, bodyPlace, disjunctPlace, atomPlace, arityPlace, Held, aritiesOf, rulesOf, ruleOf, disjunctOf, atomOf, groupOf, AtomAt, GroupAt}
@@ -83,7 +84,7 @@ module _ (form : List ℕ) where
 
     pub few-predicates : length (aritiesOf form) ≤ predicateLimit
     unfolding aritiesOf
-    few-predicates = h .sound .few
+    few-predicates = predicates-few (h .sound)
 
     pub few-rules : length (rulesOf form) ≤ ruleLimit
     unfolding rulesOf

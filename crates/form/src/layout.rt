@@ -6,7 +6,7 @@ ghost use Rattle.model.specs.Form.{formLength};
 ghost use Rattle.form.specs.Places.{rulePlace, groupPlace, bodyPlace, disjunctPlace, atomPlace, arityPlace};
 
 // How many numbers a form has.
-pub const LENGTH: usize = 6850;
+pub const LENGTH: usize = 7812;
 
 // The places of the two counts.
 pub const PREDICATE_COUNT: usize = 0;
@@ -22,7 +22,10 @@ pub const ATOM_WIDTH: usize = 5;
 
 const RULES: usize = 2;
 
-const ARITIES: usize = 6786;
+// The places of the arities, and behind them of the version.
+pub const ARITIES: usize = 6786;
+
+pub const VERSION: usize = 7810;
 
 // The place of rule `i`, which is that of its count of disjuncts; that of the rule behind the last is the end of the rules.
 pub fn rule_place(i: usize) -> usize

@@ -1,11 +1,12 @@
--- What a well-formed rule set bounds: arities, and the variables of atoms. Assumes nothing.
+-- What a well-formed rule set bounds: its predicates, arities, and the variables of atoms. Assumes nothing.
 use mathlib.Core.Path.{_≡_, refl}
-use mathlib.Core.Bool.{true}
+use mathlib.Core.Bool.{Bool, true, false}
 use mathlib.Core.List.{List, [], _∷_, List·Memᴰ, List·Memᴰ·head, List·Memᴰ·tail}
 use Prim.Native.Nat.{ℕ, zero, suc, _≤_}
 use native.Mathlib.Omega.{arith}
-use lib.ListN.{getD}
-use Rattle.model.specs.Rules.{Atom, Rule, RuleSet, Entry, variablesOf, inBody, universal, entries}
+use lib.ListN.{length, getD}
+use Rattle.model.specs.Limits.{narrowLimit, predicateLimit}
+use Rattle.model.specs.Rules.{Atom, Rule, RuleSet, Entry, wide, mostPredicates, variablesOf, inBody, universal, entries}
 use Rattle.model.specs.WellFormed.{WellFormedAtoms, WellFormedRule, WellFormed}
 use Rattle.laws.proofs.Rules.{entries-mem, variablesOf-mem, inBody-mem, mem-universal}
 
@@ -13,6 +14,18 @@ getD-within : (c : ℕ) (xs : List ℕ) → ((x : ℕ) → List·Memᴰ x xs →
 getD-within c [] h i = omega arith
 getD-within c (x ∷ xs) h zero = h x (List·Memᴰ·head refl)
 getD-within c (x ∷ xs) h (suc i) = getD-within c xs (λ y m. h y (List·Memᴰ·tail m)) i
+
+-- no version has more predicates than the last
+pub most-few : (version : ℕ) → mostPredicates version ≤ predicateLimit
+unfolding mostPredicates
+most-few version = go (wide version)
+  where
+    go : (w : Bool) → elim w [ true ↦ predicateLimit | false ↦ narrowLimit ] ≤ predicateLimit
+    go true = omega arith
+    go false = omega arith
+
+pub predicates-few : {b : RuleSet} → WellFormed b → length (b .arities) ≤ predicateLimit
+predicates-few {b} w = let f = w .few in omega (arith, most-few (b .version))
 
 -- an arity is at most 4, and a predicate that is not declared has none
 pub arities-few : {b : RuleSet} → WellFormed b → (p : ℕ) → getD (b .arities) p 0 ≤ 4

@@ -1,13 +1,13 @@
 -- A form is decided by its counted places: one that agrees with it there counts the same places, holds the same rule set and is written alike.
 -- So numbers beyond the front do not matter. Assumes nothing.
 use mathlib.Core.Path.{_≡_, refl, sym, ap, ap₂, _∙_}
-use mathlib.Core.Bool.{Bool, true, false, _&&_}
+use mathlib.Core.Bool.{Bool, true, false, _&&_, _||_}
 use mathlib.Core.Logic.{_⊎_, inl, inr}
 use mathlib.Core.List.{List, _∷_, _++_}
 use Prim.Native.Nat.{ℕ, zero, suc, _+_, _-_, _*_, _/_, _%_, _≤_, _<_}
 use native.Mathlib.Omega.{arith}
 use native.Mathlib.Nat.{suc-mul}
-use lib.Dec.{leb, ltb, leb·zero}
+use lib.Dec.{eqb, leb, ltb, leb·zero}
 use lib.ListN.{length, getD, take, drop}
 use lib.Seq.{getD-take}
 use borrow.Author.Tests.{ltb-true, ltb-false, leb-true, lt-ltb, le-leb}
@@ -15,10 +15,10 @@ use Rattle.model.specs.Lists.{numbersFrom}
 use Rattle.model.specs.Rules.{RuleSet}
 use Rattle.model.specs.WellFormed.{WellFormedAtom, WellFormedAtoms, WellFormedRule, WellFormed}
 use Rattle.model.specs.Format.{good, bad, ruleSet, bytesOf}
-use Rattle.model.specs.Form.{formLength, aritiesPlace, spaced, atomAt, groupAt, ruleAt, decoded, done, refusal, Writing, writing, countedInAtom, countedInGroup, countedInRule, counted}
-use Rattle.laws.proofs.Bools.{case, true-and}
+use Rattle.model.specs.Form.{formLength, aritiesPlace, versionPlace, spaced, atomAt, groupAt, ruleAt, decoded, done, refusal, Writing, writing, countedInAtom, countedInGroup, countedInRule, counted}
+use Rattle.laws.proofs.Bools.{case, true-and, or-left, or-right}
 use Rattle.laws.proofs.Places.{length-numbersFrom}
-use Rattle.laws_format.proofs.Places.{counted-rules, counted-arities, atoms-few, atom-well-formed, disjuncts-few, group-well-formed, aritiesOf, arities-few, rules-few, rule-well-formed, arities-same, arities-low}
+use Rattle.laws_format.proofs.Places.{counted-rules, counted-behind, atoms-few, atom-well-formed, disjuncts-few, group-well-formed, aritiesOf, arities-few, rules-few, rule-well-formed, arities-same, arities-low}
 
 -- the second of two tests matters only where the first passes
 and-same : (t : Bool) {a b : Bool} → (t ≡ true → b ≡ a) → t && b ≡ t && a
@@ -181,7 +181,10 @@ module _ (form other : List ℕ) where
         let count = length-numbersFrom form aritiesPlace (getD form 0 0) in
         let here : 6784 + p - 6784 ≡ p = omega arith in
         let place : suc (suc (6784 + p)) ≡ 6786 + p = omega arith in
-        rw place at (agree (suc (suc (6784 + p))) (omega arith) (counted-arities form (6784 + p) (omega arith) ∙ rw here (lt-ltb p (getD form 0 0) (omega arith))))
+        rw place at (agree (suc (suc (6784 + p))) (omega arith) (counted-behind form (6784 + p) (omega arith) ∙ rw here (or-left (ltb p (getD form 0 0)) (eqb p 1024) (lt-ltb p (getD form 0 0) (omega arith)))))
+
+    version-agree : getD other versionPlace 0 ≡ getD form versionPlace 0
+    version-agree = agree 7810 (omega arith) (counted-behind form 7808 (omega arith) ∙ or-right (ltb 1024 (getD form 0 0)) (eqb 1024 1024) refl)
 
     rule-agree : (k : ℕ) → k < getD form 1 0 → Agree (countedInRule form) 106 (2 + k * 106)
     rule-agree k m p l c =
@@ -211,7 +214,7 @@ module _ (form other : List ℕ) where
         let r : spaced (ruleAt other (aritiesOf other)) 106 (getD other 1 0) 2 ≡ spaced (ruleAt form arities) 106 (getD form 1 0) 2 =
         ap (λ (xs : List ℕ). spaced (ruleAt other xs) 106 (getD other 1 0) 2) p ∙ q
         in
-        λ i. record { arities = p i; rules = r i }
+        λ i. record { version = version-agree i; arities = p i; rules = r i }
 
     -- the same counted places
     pub counted-agree : (p : ℕ) → counted other p ≡ counted form p
@@ -231,7 +234,7 @@ module _ (form other : List ℕ) where
             sym (counted-rules form p l)
         go (inr e) =
             let l = ltb-false p 6784 e in
-            counted-arities other p l ∙ ap (ltb (p - 6784)) arities-count ∙ sym (counted-arities form p l)
+            counted-behind other p l ∙ ap (λ (n : ℕ). ltb (p - 6784) n || eqb (p - 6784) 1024) arities-count ∙ sym (counted-behind form p l)
 
     -- the same bytes
     pub writing-agree : (out : List ℕ) → writing other out ≡ writing form out

@@ -1,27 +1,27 @@
 -- The form of what a form holds has its numbers in the counted places and 0 in every other, and so has a form that was written and read again.
 -- Assumes nothing.
 use mathlib.Core.Path.{_≡_, sym, ap, ap₂, _∙_, subst}
-use mathlib.Core.Bool.{Bool, true, false, _&&_}
+use mathlib.Core.Bool.{Bool, true, false, _&&_, _||_}
 use mathlib.Core.Logic.{_⊎_, inl, inr}
-use mathlib.Core.List.{List, _∷_, _++_}
+use mathlib.Core.List.{List, [], _∷_, _++_}
 use Prim.Native.Nat.{ℕ, zero, suc, _+_, _-_, _*_, _/_, _%_, _≤_, _<_}
 use native.Mathlib.Omega.{arith}
 use native.Mathlib.Nat.{zero-mul, suc-mul}
-use lib.Dec.{leb, ltb, leb·zero, leb·suc-zero, leb·suc-suc}
+use lib.Dec.{eqb, leb, ltb, leb·zero, leb·suc-zero, leb·suc-suc}
 use lib.ListN.{length, getD, take, drop, length-append, length-drop, List·getD-append}
 use lib.Seq.{getD-append-add, drop-at}
-use borrow.Author.Tests.{ltb-true, ltb-false}
+use borrow.Author.Tests.{ltb-true, ltb-false, le-ltb, ne-eqb}
 use Rattle.model.specs.Lists.{collect, padded, numbersFrom}
 use Rattle.model.specs.Rules.{Atom, RuleSet}
 use Rattle.model.specs.WellFormed.{WellFormedAtom, WellFormedAtoms, WellFormedRule, WellFormed}
 use Rattle.model.specs.Format.{good, read}
-use Rattle.model.specs.Form.{formLength, aritiesPlace, atomRow, group, ruleRow, encoded, spaced, atomAt, groupAt, ruleAt, decoded, done, Reading, reading, writing, countedInAtom, countedInGroup, countedInRule, counted}
-use Rattle.laws.proofs.Bools.{case}
+use Rattle.model.specs.Form.{formLength, aritiesPlace, versionPlace, atomRow, group, ruleRow, encoded, spaced, atomAt, groupAt, ruleAt, decoded, done, Reading, reading, writing, countedInAtom, countedInGroup, countedInRule, counted}
+use Rattle.laws.proofs.Bools.{case, or-none}
 use Rattle.laws.proofs.Places.{getD-padded, length-padded, length-numbersFrom, length-spaced}
 use Rattle.laws_format.proofs.Bytes.{read-well-formed}
 use Rattle.laws_format.proofs.Form.{encoded-length, decoded-encoded}
 use Rattle.laws_format.proofs.RoundTrip.{writing-done, written-read, reading-done, reading-good}
-use Rattle.laws_format.proofs.Places.{only, numbersFrom-place, counted-rules, counted-arities, atoms-few, atom-well-formed, disjuncts-few, group-well-formed, aritiesOf, rules-few, rule-well-formed, arities-same, arities-low}
+use Rattle.laws_format.proofs.Places.{only, numbersFrom-place, counted-rules, counted-behind, atoms-few, atom-well-formed, disjuncts-few, group-well-formed, aritiesOf, arities-few, rules-few, rule-well-formed, arities-same, arities-low}
 use Rattle.laws_format.proofs.Agreement.{counted-agree}
 
 -- the row of what is read at a place has the numbers that stand there, where they count, and 0 elsewhere
@@ -164,9 +164,46 @@ module _ (form : List ℕ) (w : WellFormed (decoded form)) where
       rows-place form ruleRow (ruleAt form (aritiesOf form)) 106 (countedInRule form) (getD form 1 0) 2 (p / 106) (p % 106) rules-laid (omega arith) ∙
       ap (λ (k : ℕ). only (ltb (p / 106) (getD form 1 0) && countedInRule form (2 + (p / 106) * 106) (p % 106)) (getD form k 0)) place
 
+  behind : List ℕ
+  behind = getD form versionPlace 0 ∷ 0 ∷ []
+
+  arities-length : length (padded 1024 (aritiesOf form)) ≡ 1024
+  arities-length = let few = arities-few form w in length-padded 1024 (aritiesOf form) (omega (arith, length-numbersFrom form aritiesPlace (getD form 0 0)))
+
+  -- behind the rules: the arities, the version and 0
+  others-place : (q : ℕ) → getD (padded 1024 (aritiesOf form) ++ behind) q 0 ≡ only (ltb q (getD form 0 0) || eqb q 1024) (getD form (aritiesPlace + q) 0)
+  unfolding behind
+  others-place q = go (case (ltb q 1024))
+    where
+      few : getD form 0 0 ≤ 1024
+      few = arities-few form w
+
+      -- no arity and not the version
+      uncounted : (k : ℕ) → 1024 < k → 0 ≡ only (ltb k (getD form 0 0) || eqb k 1024) (getD form (aritiesPlace + k) 0)
+      uncounted k h = rw (le-ltb k (getD form 0 0) (omega (arith, few)), ne-eqb k 1024 (λ (e : k ≡ 1024). omega arith))
+
+      last : (k : ℕ) → getD (getD form versionPlace 0 ∷ 0 ∷ []) k 0 ≡ only (ltb (1024 + k) (getD form 0 0) || eqb (1024 + k) 1024) (getD form (aritiesPlace + (1024 + k)) 0)
+      last zero = rw (le-ltb 1024 (getD form 0 0) few)
+      last (suc zero) = uncounted 1025 (omega arith)
+      last (suc (suc k)) = uncounted (1024 + suc (suc k)) (omega arith)
+
+      go : (ltb q 1024 ≡ true) ⊎ (ltb q 1024 ≡ false)
+          → getD (padded 1024 (aritiesOf form) ++ behind) q 0 ≡ only (ltb q (getD form 0 0) || eqb q 1024) (getD form (aritiesPlace + q) 0)
+      go (inl e) =
+          let h = ltb-true q 1024 e in
+          List·getD-append (padded 1024 (aritiesOf form)) behind 0 q (omega (arith, arities-length)) ∙ getD-padded 1024 (aritiesOf form) q ∙
+          numbersFrom-place form aritiesPlace (getD form 0 0) q ∙
+          ap (λ (t : Bool). only t (getD form (aritiesPlace + q) 0)) (sym (or-none (ltb q (getD form 0 0)) (eqb q 1024) (ne-eqb q 1024 (λ (k : q ≡ 1024). omega arith))))
+      go (inr e) =
+          let h = ltb-false q 1024 e in
+          let split : q ≡ length (padded 1024 (aritiesOf form)) + (q - 1024) = omega (arith, arities-length) in
+          let back : 1024 + (q - 1024) ≡ q = omega arith in
+          ap (λ (k : ℕ). getD (padded 1024 (aritiesOf form) ++ behind) k 0) split ∙ getD-append-add (padded 1024 (aritiesOf form)) behind (q - 1024) 0 ∙ last (q - 1024) ∙
+          ap (λ (k : ℕ). only (ltb k (getD form 0 0) || eqb k 1024) (getD form (aritiesPlace + k) 0)) back
+
   -- The form of what a form holds, place by place (document 01: the same book in its counted places, the others 0).
   pub counted-places : (p : ℕ) → getD (encoded (decoded form)) p 0 ≡ elim (counted form p) [ true ↦ getD form p 0 | false ↦ 0 ]
-  unfolding decoded encoded counted rules
+  unfolding decoded encoded counted rules behind
   counted-places zero = length-numbersFrom form aritiesPlace (getD form 0 0)
   counted-places (suc zero) = length-spaced (ruleAt form (aritiesOf form)) 106 (getD form 1 0) 2
   counted-places (suc (suc p)) = go (case (ltb p 6784))
@@ -174,15 +211,15 @@ module _ (form : List ℕ) (w : WellFormed (decoded form)) where
       go : (ltb p 6784 ≡ true) ⊎ (ltb p 6784 ≡ false) → getD (encoded (decoded form)) (suc (suc p)) 0 ≡ only (counted form (suc (suc p))) (getD form (suc (suc p)) 0)
       go (inl e) =
           let h = ltb-true p 6784 e in
-          List·getD-append rules (padded 64 (aritiesOf form)) 0 p (omega (arith, rules-length)) ∙ rules-place p ∙
+          List·getD-append rules (padded 1024 (aritiesOf form) ++ behind) 0 p (omega (arith, rules-length)) ∙ rules-place p ∙
           ap (λ (t : Bool). only t (getD form (suc (suc p)) 0)) (sym (counted-rules form p h))
       go (inr e) =
           let h = ltb-false p 6784 e in
           let split : p ≡ length rules + (p - 6784) = omega (arith, rules-length) in
           let place : 6786 + (p - 6784) ≡ suc (suc p) = omega arith in
-          ap (λ (k : ℕ). getD (rules ++ padded 64 (aritiesOf form)) k 0) split ∙ getD-append-add rules (padded 64 (aritiesOf form)) (p - 6784) 0 ∙ getD-padded 64 (aritiesOf form) (p - 6784) ∙
-          numbersFrom-place form aritiesPlace (getD form 0 0) (p - 6784) ∙
-          ap₂ (λ (t : Bool) (k : ℕ). only t (getD form k 0)) (sym (counted-arities form p h)) place
+          ap (λ (k : ℕ). getD (rules ++ (padded 1024 (aritiesOf form) ++ behind)) k 0) split ∙ getD-append-add rules (padded 1024 (aritiesOf form) ++ behind) (p - 6784) 0 ∙
+          others-place (p - 6784) ∙
+          ap₂ (λ (t : Bool) (k : ℕ). only t (getD form k 0)) (sym (counted-behind form p h)) place
 
 -- the counted numbers of one form, 0 in the other places of the front, and beyond the front what stood there
 pub record Restored (form other left : List ℕ) : Type 0 where

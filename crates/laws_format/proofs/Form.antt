@@ -1,4 +1,4 @@
--- The form of a well-formed rule set has 6,850 numbers and holds that rule set again; whatever a form holds has as many variables in each atom
+-- The form of a well-formed rule set has 7,812 numbers and holds that rule set again; whatever a form holds has as many variables in each atom
 -- as the arity says. Assumes nothing.
 use mathlib.Core.Path.{_≡_, refl, sym, ap, ap₂, _∙_, subst}
 use mathlib.Core.List.{List, [], _∷_, _++_, append-assoc, List·Memᴰ, List·Memᴰ·head, List·Memᴰ·tail, List·Memᴰ·not-nil, List·Memᴰ·cases-cons}
@@ -12,6 +12,7 @@ use Rattle.model.specs.Lists.{collect, padded, numbersFrom}
 use Rattle.model.specs.Rules.{Atom, Rule, RuleSet}
 use Rattle.model.specs.WellFormed.{WellFormedAtom, WellFormedAtoms, WellFormedRule, WellFormed}
 use Rattle.model.specs.Form.{formLength, aritiesPlace, atomRow, group, ruleRow, encoded, spaced, atomAt, groupAt, ruleAt, decoded}
+use Rattle.laws.proofs.WellFormed.{predicates-few}
 use Rattle.laws.proofs.Places.{length-padded, length-numbersFrom}
 use Rattle.laws_format.proofs.Lists.{length-collect}
 use Rattle.laws_format.proofs.Parsers.{drop-past, drop-place}
@@ -76,10 +77,14 @@ module _ {b : RuleSet} (w : WellFormed b) where
       let s = w .short in
       length-padded 6784 (collect ruleRow (b .rules)) (omega arith)
 
+  arities-length : length (padded 1024 (b .arities)) ≡ 1024
+  arities-length = length-padded 1024 (b .arities) (predicates-few w)
+
   pub encoded-length : length (encoded b) ≡ formLength
   unfolding encoded
   encoded-length =
-      omega (arith, rules-length, length-padded 64 (b .arities) (w .few), length-append (padded 6784 (collect ruleRow (b .rules))) (padded 64 (b .arities)))
+      let behind : List ℕ = b .version ∷ 0 ∷ [] in
+      omega (arith, rules-length, arities-length, length-append (padded 6784 (collect ruleRow (b .rules))) (padded 1024 (b .arities) ++ behind), length-append (padded 1024 (b .arities)) behind)
 
   -- each part is read at its place
 
@@ -132,23 +137,27 @@ module _ {b : RuleSet} (w : WellFormed b) where
       let rows : List ℕ = collect ruleRow (b .rules) in
       let form : List ℕ = encoded b ++ rest in
       let front : List ℕ = length (b .arities) ∷ length (b .rules) ∷ padded 6784 rows in
-      let last : drop 6786 form ≡ padded 64 (b .arities) ++ rest =
-      ap (drop 6786) (append-assoc front (padded 64 (b .arities)) rest) ∙ drop-at front (padded 64 (b .arities) ++ rest) 6786 (omega (arith, rules-length))
-      in
+      let behind : List ℕ = b .version ∷ 0 ∷ rest in
+      let others : List ℕ = padded 1024 (b .arities) ++ behind in
+      let joined : (padded 1024 (b .arities) ++ (b .version ∷ 0 ∷ [])) ++ rest ≡ others = append-assoc (padded 1024 (b .arities)) (b .version ∷ 0 ∷ []) rest in
+      let whole : form ≡ front ++ others = append-assoc front (padded 1024 (b .arities) ++ (b .version ∷ 0 ∷ [])) rest ∙ ap (λ (xs : List ℕ). front ++ xs) joined in
+      let last : drop 6786 form ≡ others = ap (drop 6786) whole ∙ drop-at front others 6786 (omega (arith, rules-length)) in
       let p : numbersFrom form 6786 (length (b .arities)) ≡ b .arities =
-      numbersFrom-spelled form 6786 (b .arities) (replicate (64 - length (b .arities)) 0 ++ rest) (padded-front 64 (b .arities) rest last)
+      numbersFrom-spelled form 6786 (b .arities) (replicate (1024 - length (b .arities)) 0 ++ behind) (padded-front 1024 (b .arities) behind last)
       in
-      let first : drop 2 form ≡ rows ++ (replicate (6784 - length rows) 0 ++ (padded 64 (b .arities) ++ rest)) =
-      padded-front 6784 rows (padded 64 (b .arities) ++ rest) (append-assoc (padded 6784 rows) (padded 64 (b .arities)) rest)
+      let place : 6786 + length (padded 1024 (b .arities)) ≡ 7810 = omega (arith, arities-length) in
+      let v : getD form 7810 0 ≡ b .version =
+      drop-place form 7810 (b .version) (0 ∷ rest) (rw place at (drop-past form (padded 1024 (b .arities)) behind 6786 last)) .1
       in
+      let first : drop 2 form ≡ rows ++ (replicate (6784 - length rows) 0 ++ others) = padded-front 6784 rows others (ap (drop 2) whole) in
       let q : spaced (ruleAt form (b .arities)) 106 (length (b .rules)) 2 ≡ b .rules =
-      spaced-rows form ruleRow (ruleAt form (b .arities)) 106 (b .rules) 2 (replicate (6784 - length rows) 0 ++ (padded 64 (b .arities) ++ rest))
+      spaced-rows form ruleRow (ruleAt form (b .arities)) 106 (b .rules) 2 (replicate (6784 - length rows) 0 ++ others)
       (λ r m. ruleRow-length (w .rules r m)) (λ r k s m. ruleAt-row form (w .rules r m) k s) first
       in
       let c : spaced (ruleAt form (numbersFrom form 6786 (length (b .arities)))) 106 (length (b .rules)) 2 ≡ b .rules =
       ap (λ (ar : List ℕ). spaced (ruleAt form ar) 106 (length (b .rules)) 2) p ∙ q
       in
-      λ i. record { arities = p i; rules = c i }
+      λ i. record { version = v i; arities = p i; rules = c i }
 
 -- the shape of what a form holds
 

@@ -1,7 +1,7 @@
 -- Laws of the grammar of rule sets: atoms, rules and what follows the length are read where they are spelled and well-formed, and only there.
 -- Assumes nothing.
 use mathlib.Core.Path.{_≡_, refl, sym, ap, _∙_, fun-ext}
-use mathlib.Core.Bool.{true, false}
+use mathlib.Core.Bool.{Bool, true, false}
 use mathlib.Core.Logic.{_⊎_, inl, inr}
 use mathlib.Core.List.{List, [], _∷_, _++_, append-assoc, append-nil, List·Memᴰ}
 use Prim.Native.Nat.{ℕ, _+_, _-_, _≤_, _<_}
@@ -10,11 +10,12 @@ use lib.Dec.{eqb}
 use lib.ListN.{length, getD, drop, length-append, length-drop}
 use borrow.Author.Tests.{eqb-true, eq-eqb}
 use Rattle.model.specs.Lists.{any, collect}
-use Rattle.model.specs.Rules.{Atom, Rule, RuleSet, repeated, detached}
+use Rattle.model.specs.Limits.{lastVersion, ruleLimit}
+use Rattle.model.specs.Rules.{Atom, Rule, RuleSet, wide, mostPredicates, repeated, detached}
 use Rattle.model.specs.WellFormed.{WellFormedAtom, WellFormedAtoms, WellFormedRule, WellFormed}
-use Rattle.model.specs.Format.{Parsed, good, bad, andThen, byte, many, variable, atom, atoms, sound, rule, ruleSet, atomBytes, atomsBytes, ruleBytes, content}
+use Rattle.model.specs.Format.{Parsed, good, bad, andThen, byte, number, many, Signature, signed, variable, atom, atoms, sound, rule, ruleSet, numberBytes, atomBytes, atomsBytes, ruleBytes, content}
 use Rattle.laws.proofs.Bools.{case, not-both}
-use Rattle.laws_format.proofs.Parsers.{Yields, value, refused, Meets, taken, faulty, yields-then, meets-then, meets-end, Spelled, spelled-then, spelled-all, drop-past, drop-place, Between, byte-sound, byte-meets, byte-good, Codes, byte-codes, bytes-codes, collect-alone, codes-map, listed, Listed, listed-codes}
+use Rattle.laws_format.proofs.Parsers.{Yields, value, refused, Meets, taken, faulty, yields-then, meets-then, meets-end, Bytes, Spells, spells-then, spelled-all, drop-past, drop-place, Between, Codes, byte-codes, bytes-codes, number-codes, collect-alone, codes-map, listed, Listed, listed-codes}
 
 -- as many variables as the predicate's arity says
 abbrev pub ShapedAtom : List ℕ → Atom → Type 0
@@ -38,37 +39,48 @@ wellFormed-shaped w r m =
       head = λ d n a k. w .rules r m .each d n .each a k .arity;
     }
 
-module _ (bs arities : List ℕ) (some : 1 ≤ length arities) where
-  atom-codes : Codes bs (atom bs arities) atomBytes (ShapedAtom arities) (WellFormedAtom arities)
+module _ (bs : List ℕ) (s : Signature) (some : 1 ≤ length (s .arities)) where
+  abbrev arities : List ℕ
+  arities = s .arities
+
+  abbrev w : Bool
+  w = wide (s .version)
+
+  predicate-codes : Codes bs (number w bs 0 (length arities - 1) 7) (numberBytes w) (λ v. Unit {0}) (Between 0 (length arities - 1))
+  predicate-codes = number-codes w bs 0 (length arities - 1) 7 (omega arith) (omega arith)
+
+  atom-codes : Codes bs (atom bs s) (atomBytes w) (ShapedAtom arities) (WellFormedAtom arities)
   unfolding atom atomBytes variable
   atom-codes =
       record {
         sound = λ i.
-            yields-then (byte-sound bs 0 (length arities - 1) 7 i)
+            yields-then (predicate-codes .sound i)
             (λ p j h. yields-then (bytes-codes bs 0 7 7 (omega arith) (omega arith) (getD arities p 0) .sound j)
-            (λ vs k g. value (record { declared = declared p (h .0); arity = g .0 .count; range = λ v m. g .0 .each v m .below }, spelled-then (h .1) (g .1))));
-        meets = λ a i rest s e.
-            meets-then _ (byte-meets bs 0 (length arities - 1) 7 (omega arith) (omega arith) (a .predicate) i (a .variables ++ rest) e)
-            (λ w. record { above = omega arith; below = let h = w .declared in omega arith })
-            (λ h. meets-then _ (bytes-codes bs 0 7 7 (omega arith) (omega arith) (getD arities (a .predicate) 0) .meets (a .variables) (i + 1) rest s (drop-past bs (a .predicate ∷ []) (a .variables ++ rest) i e))
-            (λ w. record { count = w .arity; each = λ v m. record { above = omega arith; below = w .range v m } })
-            (λ g. meets-end (omega arith) (taken (record { declared = declared (a .predicate) h; arity = g .count; range = λ v m. g .each v m .below }))));
+            (λ vs k g. value (record { declared = declared p (h .0); arity = g .0 .count; range = λ v m. g .0 .each v m .below }, spells-then (h .1) (g .1))));
+        meets = λ a i rest shaped e.
+            let first : List ℕ = numberBytes w (a .predicate) in
+            let there : drop i bs ≡ first ++ (a .variables ++ rest) = e ∙ append-assoc first (a .variables) rest in
+            meets-then _ (predicate-codes .meets (a .predicate) i (a .variables ++ rest) tt there)
+            (λ u. record { above = omega arith; below = let h = u .declared in omega arith })
+            (λ h. meets-then _ (bytes-codes bs 0 7 7 (omega arith) (omega arith) (getD arities (a .predicate) 0) .meets (a .variables) (i + length first) rest shaped (drop-past bs first (a .variables ++ rest) i there))
+            (λ u. record { count = u .arity; each = λ v m. record { above = omega arith; below = u .range v m } })
+            (λ g. meets-end (omega (arith, length-append first (a .variables))) (taken (record { declared = declared (a .predicate) h; arity = g .count; range = λ v m. g .each v m .below }))));
       }
     where
       declared : (p : ℕ) → Between 0 (length arities - 1) p → p < length arities
       declared p h = let k = h .below in omega arith
 
-  atoms-codes : Codes bs (atoms bs arities) atomsBytes (ShapedAtoms arities) (WellFormedAtoms arities)
+  atoms-codes : Codes bs (atoms bs s) (atomsBytes w) (ShapedAtoms arities) (WellFormedAtoms arities)
   unfolding atoms atomsBytes
   atoms-codes =
-      codes-map (listed-codes 1 4 6 (omega arith) (omega arith) atom-codes) (λ as'. refl) (λ as' s. s)
-      (λ as' w. record { some = w .count .above; few = w .count .below; each = w .each })
-      (λ as' w. record { count = record { above = w .some; below = w .few }; each = w .each })
+      codes-map (listed-codes (byte-codes bs 1 4 6 (omega arith) (omega arith)) atom-codes) (λ as'. refl) (λ as' h. h)
+      (λ as' u. record { some = u .count .above; few = u .count .below; each = u .each })
+      (λ as' u. record { count = record { above = u .some; below = u .few }; each = u .each })
 
   -- the disjuncts of a head
-  disjuncts-codes : Codes bs (listed bs 1 4 6 (atoms bs arities)) (λ ds. length ds ∷ collect atomsBytes ds) (λ ds. (d : List Atom) → List·Memᴰ d ds → ShapedAtoms arities d)
+  disjuncts-codes : Codes bs (listed (byte bs 1 4 6) (atoms bs s)) (λ ds. length ds ∷ collect (atomsBytes w) ds) (λ ds. (d : List Atom) → List·Memᴰ d ds → ShapedAtoms arities d)
       (Listed 1 4 (WellFormedAtoms arities))
-  disjuncts-codes = listed-codes 1 4 6 (omega arith) (omega arith) atoms-codes
+  disjuncts-codes = listed-codes (byte-codes bs 1 4 6 (omega arith) (omega arith)) atoms-codes
 
 -- the test of 8 and 9
 module _ (r : Rule) (start i : ℕ) where
@@ -109,41 +121,44 @@ module _ {A B C : Type 0} where
   andThen-assoc (good x j) k l = refl
   andThen-assoc (bad n p) k l = refl
 
-module _ (bs arities : List ℕ) where
-  rule-listed : (i : ℕ) → rule bs arities i
-      ≡ andThen (atoms bs arities i) (λ b j. andThen (listed bs 1 4 6 (atoms bs arities) j) (λ h l. sound (record { body = b; head = h }) i l))
+module _ (bs : List ℕ) (s : Signature) where
+  rule-listed : (i : ℕ) → rule bs s i
+      ≡ andThen (atoms bs s i) (λ b j. andThen (listed (byte bs 1 4 6) (atoms bs s) j) (λ h l. sound (record { body = b; head = h }) i l))
   unfolding rule
   rule-listed i =
-      ap (andThen (atoms bs arities i))
-      (fun-ext (λ b. fun-ext (λ j. sym (andThen-assoc (byte bs 1 4 6 j) (λ n k. many n (atoms bs arities) k) (λ h l. sound (record { body = b; head = h }) i l)))))
+      ap (andThen (atoms bs s i))
+      (fun-ext (λ b. fun-ext (λ j. sym (andThen-assoc (byte bs 1 4 6 j) (λ n k. many n (atoms bs s) k) (λ h l. sound (record { body = b; head = h }) i l)))))
 
-module _ (bs arities : List ℕ) (some : 1 ≤ length arities) where
-  rule-sound : (i : ℕ) → Yields (λ r j. WellFormedRule arities r × Spelled bs i (ruleBytes r) j) (rule bs arities i)
-  unfolding ruleBytes
-  rule-sound i =
-      rw (rule-listed bs arities i)
-      (yields-then (atoms-codes bs arities some .sound i)
-      (λ b j h. yields-then (disjuncts-codes bs arities some .sound j)
-      (λ d k g. sound-sound (record { body = b; head = d }) i k
-      (λ e f. (record { body = h .0; some = g .0 .count .above; few = g .0 .count .below; each = g .0 .each; separate = e; attached = f }, spelled-then (h .1) (g .1))))))
+  module _ (some : 1 ≤ length (s .arities)) where
+    abbrev spell : List Atom → List ℕ
+    spell = atomsBytes (wide (s .version))
 
-  rule-meets : (r : Rule) (i : ℕ) (rest : List ℕ) → ShapedRule arities r → drop i bs ≡ ruleBytes r ++ rest
-      → Meets (length bs) r (i + length (ruleBytes r)) (WellFormedRule arities r) (rule bs arities i)
-  unfolding ruleBytes atomsBytes
-  rule-meets r i rest s e =
-      let heads : List ℕ = length (r .head) ∷ collect atomsBytes (r .head) in
-      let there : drop i bs ≡ atomsBytes (r .body) ++ (heads ++ rest) = e ∙ append-assoc (atomsBytes (r .body)) heads rest in
-      rw (rule-listed bs arities i)
-      (meets-then _ (atoms-codes bs arities some .meets (r .body) i (heads ++ rest) (s .body) there) (λ w. w .body)
-      (λ h. meets-then _ (disjuncts-codes bs arities some .meets (r .head) (i + length (atomsBytes (r .body))) rest (s .head) (drop-past bs (atomsBytes (r .body)) (heads ++ rest) i there))
-      (λ w. record { count = record { above = w .some; below = w .few }; each = w .each })
-      (λ g. meets-end (omega (arith, length-append (atomsBytes (r .body)) heads))
-      (sound-meets r i (i + length (atomsBytes (r .body)) + length heads) (drop-place bs i (length (r .body)) (collect atomBytes (r .body) ++ (heads ++ rest)) there .0)
-      (λ e f. record { body = h; some = g .count .above; few = g .count .below; each = g .each; separate = e; attached = f })
-      (λ w. w .separate) (λ w. w .attached)))))
+    rule-sound : (i : ℕ) → Yields (λ r j. WellFormedRule (s .arities) r × Spells bs i (ruleBytes (wide (s .version)) r) j) (rule bs s i)
+    unfolding ruleBytes
+    rule-sound i =
+        rw (rule-listed i)
+        (yields-then (atoms-codes bs s some .sound i)
+        (λ b j h. yields-then (disjuncts-codes bs s some .sound j)
+        (λ d k g. sound-sound (record { body = b; head = d }) i k
+        (λ e f. (record { body = h .0; some = g .0 .count .above; few = g .0 .count .below; each = g .0 .each; separate = e; attached = f }, spells-then (h .1) (g .1))))))
 
-  rule-codes : Codes bs (rule bs arities) ruleBytes (ShapedRule arities) (WellFormedRule arities)
-  rule-codes = record { sound = rule-sound; meets = rule-meets }
+    rule-meets : (r : Rule) (i : ℕ) (rest : List ℕ) → ShapedRule (s .arities) r → drop i bs ≡ ruleBytes (wide (s .version)) r ++ rest
+        → Meets (length bs) r (i + length (ruleBytes (wide (s .version)) r)) (WellFormedRule (s .arities) r) (rule bs s i)
+    unfolding ruleBytes atomsBytes
+    rule-meets r i rest shaped e =
+        let heads : List ℕ = length (r .head) ∷ collect spell (r .head) in
+        let there : drop i bs ≡ spell (r .body) ++ (heads ++ rest) = e ∙ append-assoc (spell (r .body)) heads rest in
+        rw (rule-listed i)
+        (meets-then _ (atoms-codes bs s some .meets (r .body) i (heads ++ rest) (shaped .body) there) (λ u. u .body)
+        (λ h. meets-then _ (disjuncts-codes bs s some .meets (r .head) (i + length (spell (r .body))) rest (shaped .head) (drop-past bs (spell (r .body)) (heads ++ rest) i there))
+        (λ u. record { count = record { above = u .some; below = u .few }; each = u .each })
+        (λ g. meets-end (omega (arith, length-append (spell (r .body)) heads))
+        (sound-meets r i (i + length (spell (r .body)) + length heads) (drop-place bs i (length (r .body)) (collect (atomBytes (wide (s .version))) (r .body) ++ (heads ++ rest)) there .0)
+        (λ e f. record { body = h; some = g .count .above; few = g .count .below; each = g .each; separate = e; attached = f })
+        (λ u. u .separate) (λ u. u .attached)))))
+
+    rule-codes : Codes bs (rule bs s) (ruleBytes (wide (s .version))) (ShapedRule (s .arities)) (WellFormedRule (s .arities))
+    rule-codes = record { sound = rule-sound; meets = rule-meets }
 
 -- the test of 10 after the last rule
 ended : List ℕ → RuleSet → ℕ → Parsed RuleSet
@@ -162,96 +177,98 @@ module _ (bs : List ℕ) where
       go (inl f) = rw (f, ended) (value (h (eqb-true e (length bs) f)))
       go (inr f) = rw (f, ended) refused
 
-  arities-codes : Codes bs (listed bs 1 64 4 (byte bs 1 4 4)) (λ vs. length vs ∷ vs) (λ vs. Unit {0}) (Listed 1 64 (Between 1 4))
-  arities-codes =
-      codes-map (listed-codes 1 64 4 (omega arith) (omega arith) (byte-codes bs 1 4 4 (omega arith) (omega arith)))
-      (λ vs. ap (λ (us : List ℕ). length vs ∷ us) (collect-alone vs)) (λ vs s v m. tt) (λ vs w. w) (λ vs w. w)
+  arities-codes : (v : ℕ) → Codes bs (listed (number (wide v) bs 1 (mostPredicates v) 4) (byte bs 1 4 4)) (λ vs. numberBytes (wide v) (length vs) ++ vs) (λ vs. Unit {0})
+      (Listed 1 (mostPredicates v) (Between 1 4))
+  arities-codes v =
+      codes-map (listed-codes (number-codes (wide v) bs 1 (mostPredicates v) 4 (omega arith) (omega arith)) (byte-codes bs 1 4 4 (omega arith) (omega arith)))
+      (λ vs. ap (λ (us : List ℕ). numberBytes (wide v) (length vs) ++ us) (collect-alone vs)) (λ vs s u m. tt) (λ vs u. u) (λ vs u. u)
 
-  rules-codes : (arities : List ℕ) → 1 ≤ length arities
-      → Codes bs (listed bs 0 64 5 (rule bs arities)) (λ rs. length rs ∷ collect ruleBytes rs) (λ rs. (r : Rule) → List·Memᴰ r rs → ShapedRule arities r)
-      (Listed 0 64 (WellFormedRule arities))
-  rules-codes arities some = listed-codes 0 64 5 (omega arith) (omega arith) (rule-codes bs arities some)
+  rules-codes : (s : Signature) → 1 ≤ length (s .arities)
+      → Codes bs (listed (byte bs 0 ruleLimit 5) (rule bs s)) (λ rs. length rs ∷ collect (ruleBytes (wide (s .version))) rs) (λ rs. (r : Rule) → List·Memᴰ r rs → ShapedRule (s .arities) r)
+      (Listed 0 ruleLimit (WellFormedRule (s .arities)))
+  rules-codes s some = listed-codes (byte-codes bs 0 ruleLimit 5 (omega arith) (omega arith)) (rule-codes bs s some)
+
+  version-codes : Codes bs (byte bs 1 lastVersion 3) (λ v. v ∷ []) (λ v. Unit {0}) (Between 1 lastVersion)
+  version-codes = byte-codes bs 1 lastVersion 3 (omega arith) (omega arith)
+
+  abbrev built : ℕ → List ℕ → List Rule → RuleSet
+  built v arities rs = record { version = v; arities = arities; rules = rs }
 
   -- the arities and the rules, each as a counted list
-  aritiesRules : ℕ → Parsed RuleSet
-  aritiesRules i =
-      andThen (listed bs 1 64 4 (byte bs 1 4 4) i)
-      (λ arities k. andThen (listed bs 0 64 5 (rule bs arities) k) (λ rs e. ended bs (record { arities = arities; rules = rs }) e))
+  rulesOf : ℕ → List ℕ → ℕ → Parsed RuleSet
+  rulesOf v arities k = andThen (listed (byte bs 0 ruleLimit 5) (rule bs (signed v arities)) k) (λ rs e. ended bs (built v arities rs) e)
 
-  ruleSet-listed : ruleSet bs ≡ andThen (byte bs 1 1 3 4) (λ v i. aritiesRules i)
-  unfolding ruleSet ended aritiesRules
-  ruleSet-listed = ap (andThen (byte bs 1 1 3 4)) (fun-ext (λ v. fun-ext (λ i. whole i)))
+  aritiesRules : ℕ → ℕ → Parsed RuleSet
+  aritiesRules v i = andThen (listed (number (wide v) bs 1 (mostPredicates v) 4) (byte bs 1 4 4) i) (rulesOf v)
+
+  ruleSet-listed : ruleSet bs ≡ andThen (byte bs 1 lastVersion 3 4) aritiesRules
+  unfolding ruleSet ended rulesOf aritiesRules
+  ruleSet-listed = ap (andThen (byte bs 1 lastVersion 3 4)) (fun-ext (λ v. fun-ext (λ i. whole v i)))
     where
-      rules : (arities : List ℕ) (k : ℕ)
-          → andThen (byte bs 0 64 5 k) (λ m l. andThen (many m (rule bs arities) l) (λ rs e. ended bs (record { arities = arities; rules = rs }) e))
-          ≡ andThen (listed bs 0 64 5 (rule bs arities) k) (λ rs e. ended bs (record { arities = arities; rules = rs }) e)
-      rules arities k = sym (andThen-assoc (byte bs 0 64 5 k) (λ m l. many m (rule bs arities) l) (λ rs e. ended bs (record { arities = arities; rules = rs }) e))
+      rules : (v : ℕ) (arities : List ℕ) (k : ℕ)
+          → andThen (byte bs 0 ruleLimit 5 k) (λ m l. andThen (many m (rule bs (signed v arities)) l) (λ rs e. ended bs (built v arities rs) e)) ≡ rulesOf v arities k
+      rules v arities k = sym (andThen-assoc (byte bs 0 ruleLimit 5 k) (λ m l. many m (rule bs (signed v arities)) l) (λ rs e. ended bs (built v arities rs) e))
 
-      counted : (i : ℕ)
-          → aritiesRules i
-          ≡ andThen (byte bs 1 64 4 i)
-          (λ n j. andThen (many n (byte bs 1 4 4) j) (λ arities k. andThen (listed bs 0 64 5 (rule bs arities) k) (λ rs e. ended bs (record { arities = arities; rules = rs }) e)))
-      counted i =
-          andThen-assoc (byte bs 1 64 4 i) (λ n j. many n (byte bs 1 4 4) j)
-          (λ arities k. andThen (listed bs 0 64 5 (rule bs arities) k) (λ rs e. ended bs (record { arities = arities; rules = rs }) e))
-
-      whole : (i : ℕ)
-          → andThen (byte bs 1 64 4 i)
+      whole : (v i : ℕ)
+          → andThen (number (wide v) bs 1 (mostPredicates v) 4 i)
           (λ n j. andThen (many n (byte bs 1 4 4) j)
-          (λ arities k. andThen (byte bs 0 64 5 k) (λ m l. andThen (many m (rule bs arities) l) (λ rs e. ended bs (record { arities = arities; rules = rs }) e))))
-          ≡ aritiesRules i
-      whole i =
-          ap (andThen (byte bs 1 64 4 i)) (fun-ext (λ n. fun-ext (λ j. ap (andThen (many n (byte bs 1 4 4) j)) (fun-ext (λ arities. fun-ext (λ k. rules arities k))))))
-          ∙ sym (counted i)
+          (λ arities k. andThen (byte bs 0 ruleLimit 5 k) (λ m l. andThen (many m (rule bs (signed v arities)) l) (λ rs e. ended bs (built v arities rs) e))))
+          ≡ aritiesRules v i
+      whole v i =
+          ap (andThen (number (wide v) bs 1 (mostPredicates v) 4 i)) (fun-ext (λ n. fun-ext (λ j. ap (andThen (many n (byte bs 1 4 4) j)) (fun-ext (λ arities. fun-ext (λ k. rules v arities k))))))
+          ∙ sym (andThen-assoc (number (wide v) bs 1 (mostPredicates v) 4 i) (λ n j. many n (byte bs 1 4 4) j) (rulesOf v))
 
   -- what is read is well-formed, was spelled after the length, and leaves nothing over
   pub record Content (b : RuleSet) (j : ℕ) : Type 0 where
     pub wellFormed : WellFormed b
-    pub bytes : drop 4 bs ≡ content b
+    pub bytes : Bytes bs → drop 4 bs ≡ content b
     pub end : j ≡ length bs
 
   pub ruleSet-sound : Yields Content (ruleSet bs)
-  unfolding content aritiesRules
+  unfolding content rulesOf aritiesRules
   ruleSet-sound =
       rw ruleSet-listed
-      (yields-then (byte-sound bs 1 1 3 4)
-      (λ v i g. yields-then (arities-codes .sound i)
-      (λ arities k h. yields-then (rules-codes arities (h .0 .count .above) .sound k)
-      (λ rs e f. ended-sound (record { arities = arities; rules = rs }) e
+      (yields-then (version-codes .sound 4)
+      (λ v i g. yields-then (arities-codes v .sound i)
+      (λ arities k h. yields-then (rules-codes (signed v arities) (h .0 .count .above) .sound k)
+      (λ rs e f. ended-sound (built v arities rs) e
       (λ p. record {
         wellFormed =
             record {
+              first = g .0 .above;
+              last = g .0 .below;
               some = h .0 .count .above;
               few = h .0 .count .below;
               arities = λ n m. (h .0 .each n m .above, h .0 .each n m .below);
               short = f .0 .count .below;
               rules = f .0 .each;
             };
-        bytes =
-            spelled-all (spelled-then (g .1) (spelled-then (h .1) (f .1))) p
-            ∙ ap (λ (w : ℕ). w ∷ length arities ∷ (arities ++ (length rs ∷ collect ruleBytes rs))) (let l = g .0 .above in let m = g .0 .below in omega arith);
+        bytes = λ u.
+            spelled-all (spells-then (g .1) (spells-then (h .1) (f .1)) u) p
+            ∙ ap (λ (xs : List ℕ). v ∷ xs) (append-assoc (numberBytes (wide v) (length arities)) arities (length rs ∷ collect (ruleBytes (wide v)) rs));
         end = p;
       })))))
 
-  version-meets : (rest : List ℕ) → drop 4 bs ≡ 1 ∷ rest → Meets (length bs) 1 5 (Unit {0}) (byte bs 1 1 3 4)
-  version-meets rest e = let (h, k) = drop-place bs 4 1 rest e in rw (byte-good bs 1 1 3 4 h (omega arith) (omega arith), k) (taken tt)
-
-  -- where the content of a rule set of the right shape follows the length, it is read or refused by 4 to 9
+  -- where the content of a rule set of the right shape follows the length, it is read or refused by 3 to 9
   pub ruleSet-meets : (b : RuleSet) → Shaped b → drop 4 bs ≡ content b → Meets (length bs) b (length bs) (WellFormed b) (ruleSet bs)
-  unfolding content aritiesRules
+  unfolding content rulesOf aritiesRules
   ruleSet-meets b s e =
-      let last : List ℕ = length (b .rules) ∷ collect ruleBytes (b .rules) in
-      let rules : drop 5 bs ≡ (length (b .arities) ∷ b .arities) ++ last = drop-past bs (1 ∷ []) (length (b .arities) ∷ (b .arities ++ last)) 4 e in
-      let place : ℕ = 5 + length (length (b .arities) ∷ b .arities) in
-      let end : place + length last ≡ length bs = omega (arith, length-drop 4 bs, ap length e, length-append (b .arities) last) in
+      let w : Bool = wide (b .version) in
+      let last : List ℕ = length (b .rules) ∷ collect (ruleBytes w) (b .rules) in
+      let first : List ℕ = numberBytes w (length (b .arities)) in
+      let rules : drop 5 bs ≡ (first ++ b .arities) ++ last = drop-past bs (b .version ∷ []) (first ++ (b .arities ++ last)) 4 e ∙ sym (append-assoc first (b .arities) last) in
+      let place : ℕ = 5 + length (first ++ b .arities) in
+      let end : place + length last ≡ length bs = omega (arith, length-drop 4 bs, ap length e, length-append first (b .arities ++ last), length-append (b .arities) last, length-append first (b .arities)) in
       rw ruleSet-listed
-      (meets-then _ (version-meets (length (b .arities) ∷ (b .arities ++ last)) e) (λ w. tt)
-      (λ v. meets-then _ (arities-codes .meets (b .arities) 5 last tt rules)
-      (λ w. record { count = record { above = w .some; below = w .few }; each = λ n m. record { above = w .arities n m .0; below = w .arities n m .1 } })
-      (λ h. meets-then _ (rules-codes (b .arities) (h .count .above) .meets (b .rules) place [] s
-      (drop-past bs (length (b .arities) ∷ b .arities) last 5 rules ∙ sym (append-nil last)))
-      (λ w. record { count = record { above = omega arith; below = w .short }; each = w .rules })
+      (meets-then _ (version-codes .meets (b .version) 4 (first ++ (b .arities ++ last)) tt e) (λ u. record { above = u .first; below = u .last })
+      (λ v. meets-then _ (arities-codes (b .version) .meets (b .arities) 5 last tt rules)
+      (λ u. record { count = record { above = u .some; below = u .few }; each = λ n m. record { above = u .arities n m .0; below = u .arities n m .1 } })
+      (λ h. meets-then _ (rules-codes (signed (b .version) (b .arities)) (h .count .above) .meets (b .rules) place [] s
+      (drop-past bs (first ++ b .arities) last 5 rules ∙ sym (append-nil last)))
+      (λ u. record { count = record { above = omega arith; below = u .short }; each = u .rules })
       (λ g. rw (end, ended-good b) (taken (record {
+        first = v .above;
+        last = v .below;
         some = h .count .above;
         few = h .count .below;
         arities = λ n m. (h .each n m .above, h .each n m .below);

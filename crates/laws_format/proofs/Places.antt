@@ -1,16 +1,17 @@
 -- Numbers by their places: in what is read from a place on, in rows of one width, and in a form. Assumes nothing.
 use mathlib.Core.Path.{_≡_, ap, _∙_}
-use mathlib.Core.Bool.{Bool, true, false, _&&_}
+use mathlib.Core.Bool.{Bool, true, false, _&&_, _||_}
 use mathlib.Core.List.{List, List·Memᴰ, List·Memᴰ·head, List·Memᴰ·tail}
 use Prim.Native.Nat.{ℕ, zero, suc, _+_, _-_, _*_, _/_, _%_, _≤_, _<_}
 use native.Mathlib.Omega.{arith}
 use native.Mathlib.Nat.{suc-mul}
-use lib.Dec.{ltb, leb·zero, leb·suc-zero, leb·suc-suc}
+use lib.Dec.{eqb, ltb, leb·zero, leb·suc-zero, leb·suc-suc}
 use lib.ListN.{length, getD}
 use borrow.Author.Tests.{lt-ltb, le-ltb}
 use Rattle.model.specs.Lists.{numbersFrom}
 use Rattle.model.specs.WellFormed.{WellFormedAtom, WellFormedAtoms, WellFormedRule, WellFormed}
 use Rattle.model.specs.Form.{aritiesPlace, spaced, atomAt, groupAt, ruleAt, decoded, countedInRule, counted}
+use Rattle.laws.proofs.WellFormed.{predicates-few}
 use Rattle.laws.proofs.Places.{length-numbersFrom, length-spaced}
 use Rattle.laws_format.proofs.Bytes.{arity-at-most}
 
@@ -41,9 +42,9 @@ pub counted-rules : (form : List ℕ) (p : ℕ) → p < 6784
 unfolding counted
 counted-rules form p h = rw (lt-ltb p 6784 h, counted)
 
-pub counted-arities : (form : List ℕ) (p : ℕ) → 6784 ≤ p → counted form (suc (suc p)) ≡ ltb (p - 6784) (getD form 0 0)
+pub counted-behind : (form : List ℕ) (p : ℕ) → 6784 ≤ p → counted form (suc (suc p)) ≡ ltb (p - 6784) (getD form 0 0) || eqb (p - 6784) 1024
 unfolding counted
-counted-arities form p h = rw (le-ltb p 6784 h, counted)
+counted-behind form p h = rw (le-ltb p 6784 h, counted)
 
 -- what is read in a part of a form, if the part is well-formed
 module _ (form arities : List ℕ) (at : ℕ) where
@@ -73,9 +74,9 @@ abbrev pub aritiesOf : List ℕ → List ℕ
 aritiesOf form = numbersFrom form aritiesPlace (getD form 0 0)
 
 module _ (form : List ℕ) (w : WellFormed (decoded form)) where
-  pub arities-few : getD form 0 0 ≤ 64
+  pub arities-few : getD form 0 0 ≤ 1024
   unfolding decoded
-  arities-few = let few = w .few in omega (arith, length-numbersFrom form aritiesPlace (getD form 0 0))
+  arities-few = let few = predicates-few w in omega (arith, length-numbersFrom form aritiesPlace (getD form 0 0))
 
   pub rules-few : getD form 1 0 ≤ 64
   unfolding decoded

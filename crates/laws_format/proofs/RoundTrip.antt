@@ -1,5 +1,5 @@
 -- Reading and writing undo each other (document 01, "Part of the product"): what is written is read into a form as the same rule set, and what
--- is read is written as the same bytes. The writer refuses only by 4 to 9, at a byte, and by 1. Assumes nothing.
+-- is read is written as the same bytes. The writer refuses only by 3 to 9, at a byte, and by 1. Assumes nothing.
 use mathlib.Core.Path.{_≡_, refl, sym, ap, _∙_}
 use mathlib.Core.Bool.{true, false}
 use mathlib.Core.Logic.{_⊎_, inl, inr}
@@ -15,9 +15,9 @@ use Rattle.model.specs.WellFormed.{WellFormed}
 use Rattle.model.specs.Format.{Parsed, good, bad, ruleSet, read, content, bytesOf}
 use Rattle.model.specs.Form.{formLength, encoded, decoded, done, refusal, Reading, reading, Writing, writing}
 use Rattle.laws.proofs.Bools.{case}
-use Rattle.laws_format.proofs.Parsers.{Meets, meets-value, meets-fault}
+use Rattle.laws_format.proofs.Parsers.{Bytes, Meets, meets-value, meets-fault}
 use Rattle.laws_format.proofs.Format.{ruleSet-meets}
-use Rattle.laws_format.proofs.Bytes.{Bytes, read-well-formed, read-end, bytes-of-read, ruleSet-of-read, drop-bytesOf, read-bytesOf, read-of-bytes}
+use Rattle.laws_format.proofs.Bytes.{read-well-formed, read-end, bytes-of-read, ruleSet-of-read, drop-bytesOf, read-bytesOf, read-of-bytes}
 use Rattle.laws_format.proofs.Form.{decoded-encoded, decoded-shaped}
 
 -- what the bytes of the rule set of a form meet
@@ -43,9 +43,9 @@ module _ (form : List ℕ) where
       → read (bytesOf (decoded form)) ≡ bad n p
   decoded-fault-read n p e h = read-bytesOf (decoded form) h ∙ e
 
-  -- 4 to 9 alone, at a byte, and only for what is not well-formed
+  -- 3 to 9 alone, at a byte, and only for what is not well-formed
   pub decoded-fault : (n p : ℕ) → ruleSet (bytesOf (decoded form)) ≡ bad n p
-      → (WellFormed (decoded form) → ⊥) × (4 ≤ n) × (n ≤ 9) × (p < length (bytesOf (decoded form)))
+      → (WellFormed (decoded form) → ⊥) × (3 ≤ n) × (n ≤ 9) × (p < length (bytesOf (decoded form)))
   decoded-fault n p e = meets-fault decoded-meets n p e
 
 -- `reading`, case by case
@@ -99,7 +99,7 @@ module _ (form out : List ℕ) where
 
   -- everything that `writing` can give
   pub data Written : Writing → Type 0 where
-    faulty : {n p : ℕ} → (WellFormed (decoded form) → ⊥) → ruleSet (bytesOf (decoded form)) ≡ bad n p → 4 ≤ n → n ≤ 9 → p < length (bytesOf (decoded form))
+    faulty : {n p : ℕ} → (WellFormed (decoded form) → ⊥) → ruleSet (bytesOf (decoded form)) ≡ bad n p → 3 ≤ n → n ≤ 9 → p < length (bytesOf (decoded form))
         → Written (record { answer = refusal n p; bytes = out })
     short : WellFormed (decoded form) → length out < length (bytesOf (decoded form)) → Written (record { answer = refusal 1 0; bytes = out })
     whole : WellFormed (decoded form) → length (bytesOf (decoded form)) ≤ length out

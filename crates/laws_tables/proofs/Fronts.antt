@@ -26,7 +26,7 @@ pub record Within (s : Stage) (us : List Term) : Type 0 where
   pub more : length us ≤ 1
   pub facts : length (s .facts) ≤ 2048
   pub functions : (f : ℕ) (as' : Terms) → List·Memᴰ (skolem f as') (s .terms ++ us) → f ≤ 2048
-  pub predicates : (f : Fact) → List·Memᴰ f (s .facts) → f .predicate < 64
+  pub predicates : (f : Fact) → List·Memᴰ f (s .facts) → f .predicate < 1024
 
 termRow-within : {ts : List Term} {i : ℕ} {t : Term} → RecordableTerm (λ j. star) ts i t → length ts ≤ 512
     → ((f : ℕ) (as' : Terms) → t ≡ skolem f as' → f ≤ 2048) → (x : ℕ) → List·Memᴰ x (termRow ts t) → x ≤ 2048
@@ -48,7 +48,7 @@ termRow-within {ts} (marked {f} {us = as'} p q ms) l h x m = go (padded-mem 10 (
         (List·Memᴰ·cases-cons k)
     go (inr e) = omega arith
 
-factRow-within : {arities : List ℕ} {ts : List Term} {f : Fact} → Recordable arities ts f → length ts ≤ 512 → f .predicate < 64 → (x : ℕ)
+factRow-within : {arities : List ℕ} {ts : List Term} {f : Fact} → Recordable arities ts f → length ts ≤ 512 → f .predicate < 1024 → (x : ℕ)
     → List·Memᴰ x (factRow ts f) → x ≤ 2048
 unfolding factRow
 factRow-within {ts = ts} {f} h l p x m = go (padded-mem 5 (f .predicate ∷ map (number ts) (f .arguments)) m)

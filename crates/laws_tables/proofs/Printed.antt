@@ -1,4 +1,4 @@
--- The text that `print` writes, for every input: at most 72,767 bytes, each below 128. Assumes nothing.
+-- The text that `print` writes, for every input: at most 76,863 bytes, each below 128. Assumes nothing.
 use mathlib.Core.Path.{_≡_, refl}
 use mathlib.Core.List.{List, [], _∷_}
 use Prim.Native.Nat.{ℕ, _≤_}
@@ -9,7 +9,7 @@ use Rattle.model.specs.Rules.{RuleSet}
 use Rattle.model.specs.WellFormed.{WellFormed}
 use Rattle.model.specs.Format.{good, read}
 use Rattle.model.specs.Stages.{Verdict, accepted, cyclicAt, refused, stage, verdict}
-use Rattle.model.specs.Limits.{termsFront, factsFront, programDepth}
+use Rattle.model.specs.Limits.{inputLimit, termsFront, factsFront, programDepth}
 use Rattle.model.specs.Tables.{Checked, checked, left}
 use Rattle.model.specs.Text.{termNumbers, text, declared, textOf, printed}
 use Rattle.laws_format.proofs.Bytes.{read-well-formed}
@@ -38,7 +38,7 @@ held-more {d} {b} {v} {n} {f} {t} {u} h terms₀ facts₀ =
     (term-shown (h .records) (h .within) v terms₀ facts₀ (length (stage b n .terms)) (rw (length-append (stage b n .terms) (u ∷ [])) (omega arith)))
 
 length-left : (d : ℕ) (b : RuleSet) → WellFormed b → (terms₀ facts₀ : List ℕ) (v : Verdict) → verdict d b ≡ v → Excessive v
-    → length (text (b .arities) v (left d b v terms₀ facts₀ .terms) (left d b v terms₀ facts₀ .facts)) ≤ 72767
+    → length (text (b .arities) v (left d b v terms₀ facts₀ .terms) (left d b v terms₀ facts₀ .facts)) ≤ 76863
 length-left d b w terms₀ facts₀ (accepted n f t) e x =
     let k = reached-bounded b w n (accepted-says d b w e .reached) in
     let l = length-accepted {n = n} (omega arith) (held-shown (accepted-held d b w e) terms₀ facts₀) in
@@ -51,17 +51,17 @@ length-left d b w terms₀ facts₀ (refused n p) e x =
     let l = length-refused (b .arities) n p (left d b (refused n p) terms₀ facts₀ .terms) (left d b (refused n p) terms₀ facts₀ .facts) (omega arith) in
     omega arith
 
-pub length-textOf : (d : ℕ) (bytes terms₀ facts₀ : List ℕ) → length (textOf bytes (checked d bytes terms₀ facts₀)) ≤ 72767
+pub length-textOf : (d : ℕ) (bytes terms₀ facts₀ : List ℕ) → length (textOf bytes (checked d bytes terms₀ facts₀)) ≤ 76863
 unfolding textOf
 length-textOf d bytes terms₀ facts₀ = go (course d bytes terms₀ facts₀)
   where
     c : Checked
     c = checked d bytes terms₀ facts₀
 
-    refusal : (n p : ℕ) → n ≤ 18 → c ≡ record { verdict = refused n p; terms = terms₀; facts = facts₀ } → length (text (declared bytes) (c .verdict) (c .terms) (c .facts)) ≤ 72767
+    refusal : (n p : ℕ) → n ≤ 18 → c ≡ record { verdict = refused n p; terms = terms₀; facts = facts₀ } → length (text (declared bytes) (c .verdict) (c .terms) (c .facts)) ≤ 76863
     refusal n p l e = let k = length-refused (declared bytes) n p terms₀ facts₀ (omega arith) in rw e (omega arith)
 
-    go : Course d bytes terms₀ facts₀ → length (text (declared bytes) (c .verdict) (c .terms) (c .facts)) ≤ 72767
+    go : Course d bytes terms₀ facts₀ → length (text (declared bytes) (c .verdict) (c .terms) (c .facts)) ≤ 76863
     go (short h e) = refusal 1 0 (omega arith) e
     go (shallow h a e) = refusal 18 0 (omega arith) e
     go (faulty n p i j h a r e) = refusal n p (omega arith) e
@@ -69,10 +69,10 @@ length-textOf d bytes terms₀ facts₀ = go (course d bytes terms₀ facts₀)
         rw (declared-good bytes b i r, e, left-verdict d b (verdict d b) terms₀ facts₀)
         (length-left d b (read-well-formed bytes b i r) terms₀ facts₀ (verdict d b) refl (verdict-excessive d b))
 
-pub length-printed : (input : List ℕ) → length (printed input) ≤ 72767
+pub length-printed : (input : List ℕ) → length (printed input) ≤ 76863
 unfolding printed
-length-printed input = length-textOf programDepth (take 6856 input) (replicate termsFront 0) (replicate factsFront 0)
+length-printed input = length-textOf programDepth (take inputLimit input) (replicate termsFront 0) (replicate factsFront 0)
 
 pub printed-ascii : (input : List ℕ) → Ascii (printed input)
 unfolding printed
-printed-ascii input = textOf-ascii (take 6856 input) (checked programDepth (take 6856 input) (replicate termsFront 0) (replicate factsFront 0))
+printed-ascii input = textOf-ascii (take inputLimit input) (checked programDepth (take inputLimit input) (replicate termsFront 0) (replicate factsFront 0))

@@ -1,14 +1,15 @@
 -- Which refusals reading gives, and which the verdict: 2 to 10, and 11 to 14. Assumes nothing.
 use mathlib.Core.Bool.{Bool, true, false, _&&_}
 use mathlib.Core.List.{List, [], _∷_}
-use Prim.Native.Nat.{ℕ, zero, suc, _+_, _-_, _≤_}
+use Prim.Native.Nat.{ℕ, zero, suc, _+_, _-_, _*_, _≤_}
 use native.Mathlib.Omega.{arith}
 use lib.Dec.{eqb, ltb, leb}
 use lib.ListN.{length, getD}
 use Rattle.model.specs.Lists.{any}
 use Rattle.model.specs.Term.{Term}
-use Rattle.model.specs.Rules.{Rule, RuleSet, Entry, entries, repeated, detached}
-use Rattle.model.specs.Format.{Parsed, good, bad, andThen, byte, many, variable, atom, atoms, sound, rule, ruleSet, stated, read}
+use Rattle.model.specs.Limits.{lastVersion}
+use Rattle.model.specs.Rules.{Rule, RuleSet, Entry, entries, wide, mostPredicates, repeated, detached}
+use Rattle.model.specs.Format.{Parsed, good, bad, andThen, byte, number, many, Signature, signed, variable, atom, atoms, sound, rule, ruleSet, whole, read}
 use Rattle.model.specs.Stages.{Stage, stage, Verdict, accepted, cyclicAt, refused, judge, verdict, tooLarge, tooMany, cyclicTerms, grown, outputs}
 
 -- a refusal, if it is one, from 2 to 10
@@ -16,11 +17,11 @@ abbrev pub Faulty : {A : Type 0} → Parsed A → Type 0
 Faulty (good a i) = Unit {0}
 Faulty (bad n i) = (2 ≤ n) × (n ≤ 10)
 
-either : {A : Type 0} (b : Bool) (x y : Parsed A) → Faulty x → Faulty y → Faulty {A = A} (elim b [ true ↦ x | false ↦ y ])
+pub either : {A : Type 0} (b : Bool) (x y : Parsed A) → Faulty x → Faulty y → Faulty {A = A} (elim b [ true ↦ x | false ↦ y ])
 either true x y h k = h
 either false x y h k = k
 
-andThen-faulty : {A B : Type 0} (x : Parsed A) (k : A → ℕ → Parsed B) → Faulty x → ((a : A) (i : ℕ) → Faulty (k a i)) → Faulty (andThen x k)
+pub andThen-faulty : {A B : Type 0} (x : Parsed A) (k : A → ℕ → Parsed B) → Faulty x → ((a : A) (i : ℕ) → Faulty (k a i)) → Faulty (andThen x k)
 unfolding andThen
 andThen-faulty (good a i) k h l = l a i
 andThen-faulty (bad n i) k h l = h
@@ -32,48 +33,56 @@ many-faulty (suc n) p h i =
     andThen-faulty (p i) (λ a j. andThen (many n p j) (λ as' k. good (a ∷ as') k)) (h i)
     (λ a j. andThen-faulty (many n p j) (λ as' k. good (a ∷ as') k) (many-faulty n p h j) (λ as' k. tt))
 
-byte-faulty : (bs : List ℕ) (low high n i : ℕ) → 2 ≤ n → n ≤ 10 → Faulty (byte bs low high n i)
+pub byte-faulty : (bs : List ℕ) (low high n i : ℕ) → 2 ≤ n → n ≤ 10 → Faulty (byte bs low high n i)
 unfolding byte
 byte-faulty bs low high n i h k =
     either (ltb i (length bs)) _ _ (either (leb low (getD bs i 0) && leb (getD bs i 0) high) _ _ tt (h, k)) (omega arith)
 
-atom-faulty : (bs arities : List ℕ) (i : ℕ) → Faulty (atom bs arities i)
+pub number-faulty : (w : Bool) (bs : List ℕ) (low high n i : ℕ) → 2 ≤ n → n ≤ 10 → Faulty (number w bs low high n i)
+unfolding number
+number-faulty false bs low high n i h k = byte-faulty bs low high n i h k
+number-faulty true bs low high n i h k =
+    let v : ℕ = getD bs i 0 * 256 + getD bs (suc i) 0 in
+    either (ltb (suc i) (length bs)) _ _ (either (leb low v && leb v high) (good v (suc (suc i))) (bad n i) tt (h, k)) (omega arith)
+
+atom-faulty : (bs : List ℕ) (s : Signature) (i : ℕ) → Faulty (atom bs s i)
 unfolding atom variable
-atom-faulty bs arities i =
-    andThen-faulty (byte bs 0 (length arities - 1) 7 i) _ (byte-faulty bs 0 (length arities - 1) 7 i (omega arith) (omega arith)) (λ p j.
-    andThen-faulty (many (getD arities p 0) (variable bs) j) _ (many-faulty (getD arities p 0) (variable bs) (λ l. byte-faulty bs 0 7 7 l (omega arith) (omega arith)) j)
+atom-faulty bs s i =
+    andThen-faulty (number (wide (s .version)) bs 0 (length (s .arities) - 1) 7 i) _
+    (number-faulty (wide (s .version)) bs 0 (length (s .arities) - 1) 7 i (omega arith) (omega arith)) (λ p j.
+    andThen-faulty (many (getD (s .arities) p 0) (variable bs) j) _
+    (many-faulty (getD (s .arities) p 0) (variable bs) (λ l. byte-faulty bs 0 7 7 l (omega arith) (omega arith)) j)
     (λ vs k. tt))
 
-atoms-faulty : (bs arities : List ℕ) (i : ℕ) → Faulty (atoms bs arities i)
+atoms-faulty : (bs : List ℕ) (s : Signature) (i : ℕ) → Faulty (atoms bs s i)
 unfolding atoms
-atoms-faulty bs arities i =
-    andThen-faulty (byte bs 1 4 6 i) _ (byte-faulty bs 1 4 6 i (omega arith) (omega arith)) (λ n j. many-faulty n (atom bs arities) (atom-faulty bs arities) j)
+atoms-faulty bs s i = andThen-faulty (byte bs 1 4 6 i) _ (byte-faulty bs 1 4 6 i (omega arith) (omega arith)) (λ n j. many-faulty n (atom bs s) (atom-faulty bs s) j)
 
 sound-faulty : (r : Rule) (start i : ℕ) → Faulty (sound r start i)
 unfolding sound
 sound-faulty r start i = either (repeated r (r .head)) _ _ (omega arith) (either (any (detached r) (r .head)) _ _ (omega arith) tt)
 
-rule-faulty : (bs arities : List ℕ) (i : ℕ) → Faulty (rule bs arities i)
+rule-faulty : (bs : List ℕ) (s : Signature) (i : ℕ) → Faulty (rule bs s i)
 unfolding rule
-rule-faulty bs arities i =
-    andThen-faulty (atoms bs arities i) _ (atoms-faulty bs arities i) (λ b j.
+rule-faulty bs s i =
+    andThen-faulty (atoms bs s i) _ (atoms-faulty bs s i) (λ b j.
     andThen-faulty (byte bs 1 4 6 j) _ (byte-faulty bs 1 4 6 j (omega arith) (omega arith)) (λ n k.
-    andThen-faulty (many n (atoms bs arities) k) _ (many-faulty n (atoms bs arities) (atoms-faulty bs arities) k) (λ h l.
+    andThen-faulty (many n (atoms bs s) k) _ (many-faulty n (atoms bs s) (atoms-faulty bs s) k) (λ h l.
     sound-faulty (record { body = b; head = h }) i l)))
 
-ruleSet-faulty : (bs : List ℕ) → Faulty (ruleSet bs)
+pub ruleSet-faulty : (bs : List ℕ) → Faulty (ruleSet bs)
 unfolding ruleSet
 ruleSet-faulty bs =
-    andThen-faulty (byte bs 1 1 3 4) _ (byte-faulty bs 1 1 3 4 (omega arith) (omega arith)) (λ v i.
-    andThen-faulty (byte bs 1 64 4 i) _ (byte-faulty bs 1 64 4 i (omega arith) (omega arith)) (λ n j.
+    andThen-faulty (byte bs 1 lastVersion 3 4) _ (byte-faulty bs 1 lastVersion 3 4 (omega arith) (omega arith)) (λ v i.
+    andThen-faulty (number (wide v) bs 1 (mostPredicates v) 4 i) _ (number-faulty (wide v) bs 1 (mostPredicates v) 4 i (omega arith) (omega arith)) (λ n j.
     andThen-faulty (many n (byte bs 1 4 4) j) _ (many-faulty n (byte bs 1 4 4) (λ l. byte-faulty bs 1 4 4 l (omega arith) (omega arith)) j) (λ arities k.
     andThen-faulty (byte bs 0 64 5 k) _ (byte-faulty bs 0 64 5 k (omega arith) (omega arith)) (λ m l.
-    andThen-faulty (many m (rule bs arities) l) _ (many-faulty m (rule bs arities) (rule-faulty bs arities) l) (λ rs e.
+    andThen-faulty (many m (rule bs (signed v arities)) l) _ (many-faulty m (rule bs (signed v arities)) (rule-faulty bs (signed v arities)) l) (λ rs e.
     either (eqb e (length bs)) _ _ tt (omega arith))))))
 
 pub read-faulty : (bs : List ℕ) → Faulty (read bs)
 unfolding read
-read-faulty bs = either (leb 4 (length bs) && eqb (stated bs + 4) (length bs)) _ _ (ruleSet-faulty bs) (omega arith)
+read-faulty bs = either (whole bs) _ _ (ruleSet-faulty bs) (omega arith)
 
 -- a refusal, if it is one, from 11 to 14
 abbrev pub Excessive : Verdict → Type 0

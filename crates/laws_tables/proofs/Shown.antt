@@ -52,7 +52,7 @@ shownTerm-line {ts} (marked {f} {us = as'} p q ms) l h =
       small = numbers-small ts l (list as') (λ a m. ms a m .0);
     }
 
-shownFact-line : {arities : List ℕ} {ts : List Term} {f : Fact} → RecordableFact arities ts f → length ts ≤ 512 → f .predicate < 64
+shownFact-line : {arities : List ℕ} {ts : List Term} {f : Fact} → RecordableFact arities ts f → length ts ≤ 512 → f .predicate < 1024
     → FactLine (shownFact arities (factRow ts f))
 unfolding factRow padded
 shownFact-line {arities} {ts} {f} h l p =

@@ -14,6 +14,7 @@ use Rattle.model.specs.Rules.{RuleSet, Entry, entries, existential}
 use Rattle.model.specs.WellFormed.{WellFormed}
 use Rattle.model.specs.Stages.{stage}
 use Rattle.model.specs.Tables.{number, termRow}
+use Rattle.laws.proofs.WellFormed.{predicates-few}
 use Rattle.laws.proofs.Lists.{eqb-decides, index-mem, getD-mem}
 use Rattle.laws.proofs.Terms.{number-append}
 use Rattle.laws_stages.specs.Reached.{Reached}
@@ -131,5 +132,5 @@ module _ (b : RuleSet) (w : WellFormed b) (n : ℕ) (us : List Term) (next : (u 
         more = l;
         facts = reached-facts-within b w n r;
         functions = functions-within;
-        predicates = λ f m. let k = facts-well-formed b w n m .declared in let j = w .few in omega arith;
+        predicates = λ f m. let k = facts-well-formed b w n m .declared in let j = predicates-few w in omega arith;
       }

@@ -50,12 +50,12 @@ pub record TermLine (ns : List ℕ) : Type 0 where
   pub few : length arguments ≤ 8
   pub small : (n : ℕ) → List·Memᴰ n arguments → n < 10 ^ 3
 
--- what a line shows of a fact: a predicate of at most two digits, and at most four term numbers of at most three
+-- what a line shows of a fact: a predicate of at most four digits, and at most four term numbers of at most three
 pub record FactLine (ns : List ℕ) : Type 0 where
   pub predicate : ℕ
   pub arguments : List ℕ
   pub whole : ns ≡ predicate ∷ arguments
-  pub predicate-small : predicate < 10 ^ 2
+  pub predicate-small : predicate < 10 ^ 4
   pub few : length arguments ≤ 4
   pub small : (n : ℕ) → List·Memᴰ n arguments → n < 10 ^ 3
 
@@ -72,9 +72,9 @@ length-termLine i {ns} l h =
     let m = length-function h in
     rw length-line (omega arith)
 
-length-factLine : {ns : List ℕ} → FactLine ns → length (line factWord ns) ≤ 24
+length-factLine : {ns : List ℕ} → FactLine ns → length (line factWord ns) ≤ 26
 length-factLine {ns} h =
-    let k = length-spaced-cons (h .predicate) (h .arguments) 1 (h .predicate-small) in
+    let k = length-spaced-cons (h .predicate) (h .arguments) 3 (h .predicate-small) in
     let l = length-spaced (h .arguments) 2 (h .small) in
     let m = h .few in
     rw (length-line, h .whole) (omega arith)
@@ -86,7 +86,7 @@ pub record Shown (arities terms facts : List ℕ) (f t : ℕ) : Type 0 where
   pub term : (i : ℕ) → i < t → TermLine (termNumbers terms i)
   pub fact : (i : ℕ) → i < f → FactLine (factNumbers arities facts i)
 
-length-records : {arities terms facts : List ℕ} {f t : ℕ} → Shown arities terms facts f t → length (records arities terms facts f t) ≤ 72704
+length-records : {arities terms facts : List ℕ} {f t : ℕ} → Shown arities terms facts f t → length (records arities terms facts f t) ≤ 76800
 unfolding records
 length-records {arities} {terms} {facts} {f} {t} h =
     let m = h .terms-few in
@@ -95,7 +95,7 @@ length-records {arities} {terms} {facts} {f} {t} h =
     length-lines (λ i. line termWord (i ∷ termNumbers terms i)) 46 t 0
     (λ i p q. let l : i < t = omega arith in length-termLine i (omega arith) (h .term i l))
     in
-    let j = length-lines (λ i. line factWord (factNumbers arities facts i)) 24 f 0 (λ i p q. let l : i < f = omega arith in length-factLine (h .fact i l)) in
+    let j = length-lines (λ i. line factWord (factNumbers arities facts i)) 26 f 0 (λ i p q. let l : i < f = omega arith in length-factLine (h .fact i l)) in
     rw length-append (omega arith)
 
 length-header : (word : List ℕ) (n f t : ℕ) → n < 10 ^ 4 → f < 10 ^ 4 → t < 10 ^ 3 → length (line word (n ∷ f ∷ t ∷ [])) ≤ length word + 15
@@ -107,7 +107,7 @@ length-header word n f t h k l =
     rw length-line (omega arith)
 
 pub length-accepted : {arities terms facts : List ℕ} {n f t : ℕ} → n < 10 ^ 4 → Shown arities terms facts f t
-    → length (text arities (accepted n f t) terms facts) ≤ 72727
+    → length (text arities (accepted n f t) terms facts) ≤ 76823
 unfolding text
 length-accepted {n = n} {f} {t} l h =
     let p = h .terms-few in
@@ -117,7 +117,7 @@ length-accepted {n = n} {f} {t} l h =
     rw length-append (omega arith)
 
 pub length-cyclicAt : {arities terms facts : List ℕ} {n f t : ℕ} → n < 10 ^ 4 → Shown arities terms facts f t → TermLine (termNumbers terms t)
-    → length (text arities (cyclicAt n f t) terms facts) ≤ 72767
+    → length (text arities (cyclicAt n f t) terms facts) ≤ 76863
 unfolding text
 length-cyclicAt {arities} {terms} {facts} {n} {f} {t} l h k =
     let p = h .terms-few in

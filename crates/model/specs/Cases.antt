@@ -1,5 +1,5 @@
 -- The cases that document 01 marks to be proved, [P], forms of River, books on which a misreading of it gives another answer, one for the
--- order of records, and books at other depths. Their theorems stand in proofs/Cases.antt. Assumes nothing.
+-- order of records, books of both versions, and books at other depths. Their theorems stand in proofs/Cases.antt. Assumes nothing.
 use mathlib.Core.List.{List, [], _∷_, _++_}
 use Prim.Native.Nat.{ℕ, _-_}
 use lib.ListN.{length, replicate}
@@ -64,7 +64,7 @@ riverBytes = 0 ∷ 0 ∷ 0 ∷ 33 ∷ 1 ∷ 3 ∷ 1 ∷ 2 ∷ 1 ∷ 3 ∷ 1 ∷ 
 
 -- A form of River with x in every place that is not counted.
 unfoldable pub riverForm : ℕ → List ℕ
-riverForm x = 3 ∷ 3 ∷ (filled 6784 (batches ++ (divided ++ closings)) ++ filled 64 (1 ∷ 2 ∷ 1 ∷ []))
+riverForm x = 3 ∷ 3 ∷ (filled 6784 (batches ++ (divided ++ closings)) ++ (filled 1024 (1 ∷ 2 ∷ 1 ∷ []) ++ (1 ∷ x ∷ [])))
   where
     filled : ℕ → List ℕ → List ℕ
     filled n xs = xs ++ replicate (n - length xs) x
@@ -116,6 +116,25 @@ misreadings =
 unfoldable pub ordered : List Case
 ordered =
     record { bytes = 0 ∷ 0 ∷ 0 ∷ 62 ∷ 1 ∷ 8 ∷ 1 ∷ 2 ∷ 2 ∷ 2 ∷ 2 ∷ 2 ∷ 2 ∷ 2 ∷ 4 ∷ 1 ∷ 0 ∷ 0 ∷ 1 ∷ 2 ∷ 1 ∷ 0 ∷ 5 ∷ 1 ∷ 0 ∷ 3 ∷ 1 ∷ 1 ∷ 0 ∷ 1 ∷ 2 ∷ 2 ∷ 2 ∷ 0 ∷ 1 ∷ 3 ∷ 1 ∷ 0 ∷ 2 ∷ 4 ∷ 0 ∷ 1 ∷ 5 ∷ 1 ∷ 0 ∷ 1 ∷ 1 ∷ 0 ∷ 1 ∷ 1 ∷ 1 ∷ 6 ∷ 1 ∷ 0 ∷ 2 ∷ 1 ∷ 0 ∷ 1 ∷ 1 ∷ 0 ∷ 2 ∷ 1 ∷ 1 ∷ 7 ∷ 1 ∷ 2 ∷ []; verdict = accepted 2 28 3; tables = rows ((0 ∷ []) ∷ (2 ∷ 1 ∷ 0 ∷ []) ∷ (1 ∷ 1 ∷ 0 ∷ []) ∷ []) ((0 ∷ 0 ∷ []) ∷ (1 ∷ 0 ∷ 0 ∷ []) ∷ (2 ∷ 0 ∷ 0 ∷ []) ∷ (3 ∷ 0 ∷ 0 ∷ []) ∷ (4 ∷ 0 ∷ 0 ∷ []) ∷ (5 ∷ 0 ∷ 0 ∷ []) ∷ (6 ∷ 0 ∷ 0 ∷ []) ∷ (7 ∷ 0 ∷ 0 ∷ []) ∷ (1 ∷ 0 ∷ 1 ∷ []) ∷ (1 ∷ 0 ∷ 2 ∷ []) ∷ (2 ∷ 0 ∷ 1 ∷ []) ∷ (3 ∷ 1 ∷ 0 ∷ []) ∷ (4 ∷ 0 ∷ 1 ∷ []) ∷ (5 ∷ 1 ∷ 0 ∷ []) ∷ (2 ∷ 0 ∷ 2 ∷ []) ∷ (3 ∷ 2 ∷ 0 ∷ []) ∷ (4 ∷ 0 ∷ 2 ∷ []) ∷ (5 ∷ 2 ∷ 0 ∷ []) ∷ (6 ∷ 1 ∷ 0 ∷ []) ∷ (6 ∷ 2 ∷ 0 ∷ []) ∷ (7 ∷ 0 ∷ 1 ∷ []) ∷ (7 ∷ 0 ∷ 2 ∷ []) ∷ (7 ∷ 1 ∷ 0 ∷ []) ∷ (7 ∷ 1 ∷ 1 ∷ []) ∷ (7 ∷ 1 ∷ 2 ∷ []) ∷ (7 ∷ 2 ∷ 0 ∷ []) ∷ (7 ∷ 2 ∷ 1 ∷ []) ∷ (7 ∷ 2 ∷ 2 ∷ []) ∷ []) } ∷
+    []
+
+-- Versions (document 02, C-15)
+unfoldable pub versions : List Case
+versions =
+    -- River in version 2
+    record { bytes = 0 ∷ 0 ∷ 0 ∷ 41 ∷ 2 ∷ 0 ∷ 3 ∷ 1 ∷ 2 ∷ 1 ∷ 3 ∷ 1 ∷ 0 ∷ 0 ∷ 0 ∷ 1 ∷ 1 ∷ 0 ∷ 1 ∷ 0 ∷ 1 ∷ 1 ∷ 0 ∷ 1 ∷ 0 ∷ 1 ∷ 2 ∷ 1 ∷ 0 ∷ 2 ∷ 1 ∷ 1 ∷ 0 ∷ 0 ∷ 1 ∷ 1 ∷ 0 ∷ 1 ∷ 0 ∷ 1 ∷ 1 ∷ 1 ∷ 0 ∷ 2 ∷ 1 ∷ []; verdict = accepted 2 5 2; tables = rows ((0 ∷ []) ∷ (1 ∷ 1 ∷ 0 ∷ []) ∷ []) ((0 ∷ 0 ∷ []) ∷ (1 ∷ 0 ∷ 0 ∷ []) ∷ (2 ∷ 0 ∷ []) ∷ (1 ∷ 0 ∷ 1 ∷ []) ∷ (2 ∷ 1 ∷ []) ∷ []) } ∷
+    -- no version 3 yet
+    record { bytes = 0 ∷ 0 ∷ 0 ∷ 1 ∷ 3 ∷ []; verdict = refused 3 4; tables = untouched } ∷
+    -- 65 predicates in version 1
+    record { bytes = 0 ∷ 0 ∷ 0 ∷ 2 ∷ 1 ∷ 65 ∷ []; verdict = refused 4 5; tables = untouched } ∷
+    -- none in version 2, and 1,025: the place is that of the first byte
+    record { bytes = 0 ∷ 0 ∷ 0 ∷ 3 ∷ 2 ∷ 0 ∷ 0 ∷ []; verdict = refused 4 5; tables = untouched } ∷
+    record { bytes = 0 ∷ 0 ∷ 0 ∷ 3 ∷ 2 ∷ 4 ∷ 1 ∷ []; verdict = refused 4 5; tables = untouched } ∷
+    -- a count that is cut short, although its first byte is too large
+    record { bytes = 0 ∷ 0 ∷ 0 ∷ 2 ∷ 2 ∷ 5 ∷ []; verdict = refused 10 6; tables = untouched } ∷
+    -- a predicate that its second byte makes wrong, and one that is cut short
+    record { bytes = 0 ∷ 0 ∷ 0 ∷ 8 ∷ 2 ∷ 0 ∷ 1 ∷ 1 ∷ 1 ∷ 1 ∷ 0 ∷ 1 ∷ []; verdict = refused 7 10; tables = untouched } ∷
+    record { bytes = 0 ∷ 0 ∷ 0 ∷ 7 ∷ 2 ∷ 0 ∷ 1 ∷ 1 ∷ 1 ∷ 1 ∷ 0 ∷ []; verdict = refused 10 11; tables = untouched } ∷
     []
 
 -- Depths (document 02, C-14): what is no depth is refused before the bytes are looked at, and a way is counted by itself.

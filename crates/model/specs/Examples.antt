@@ -31,6 +31,7 @@ outcomeOf x =
 unfoldable pub river : RuleSet
 river =
     record {
+      version = 1;
       arities = 1 ∷ 2 ∷ 1 ∷ [];
       rules =
           record {
@@ -52,6 +53,7 @@ river =
 unfoldable pub either : RuleSet
 either =
     record {
+      version = 1;
       arities = 1 ∷ 1 ∷ 1 ∷ [];
       rules =
           record {

@@ -1,13 +1,14 @@
 -- The form of a rule set (document 01: book form): numbers at fixed places, counted and uncounted, and what reading and writing leave
 -- behind. Assumes nothing.
 --
--- Place 0 has the count of predicates, place 1 the count of rules; 64 rules of 106 numbers stand from place 2, 64 arities from place 6786.
+-- Place 0 has the count of predicates, place 1 the count of rules; 64 rules of 106 numbers stand from place 2, 1024 arities from place 6786,
+-- and the version at place 7810. Place 7811 is kept for C-16 of document 02 and is not counted.
 -- A rule is the count of its disjuncts and five groups of 21 numbers: the body, then the disjuncts.
 -- A group is the count of its atoms and four atoms of five numbers: the predicate, then its variables.
 use mathlib.Core.List.{List, [], _∷_, _++_}
-use mathlib.Core.Bool.{Bool, true, false, _&&_}
+use mathlib.Core.Bool.{Bool, true, false, _&&_, _||_}
 use Prim.Native.Nat.{ℕ, zero, suc, _+_, _-_, _*_, _/_, _%_}
-use lib.Dec.{leb, ltb}
+use lib.Dec.{eqb, leb, ltb}
 use lib.ListN.{length, getD, drop}
 use Rattle.model.specs.Limits.{predicateLimit, factWidth}
 use Rattle.model.specs.Lists.{collect, padded, numbersFrom}
@@ -27,8 +28,11 @@ rulesLength = 6784
 abbrev pub aritiesPlace : ℕ
 aritiesPlace = 6786
 
+abbrev pub versionPlace : ℕ
+versionPlace = 7810
+
 abbrev pub formLength : ℕ
-formLength = 6850
+formLength = 7812
 
 unfoldable pub atomRow : Atom → List ℕ
 atomRow a = padded factWidth (a .predicate ∷ a .variables)
@@ -41,7 +45,8 @@ ruleRow r = padded ruleWidth (length (r .head) ∷ (group (r .body) ++ collect g
 
 -- the form of a rule set: 0 in every place that is not counted
 unfoldable pub encoded : RuleSet → List ℕ
-encoded b = length (b .arities) ∷ length (b .rules) ∷ (padded rulesLength (collect ruleRow (b .rules)) ++ padded predicateLimit (b .arities))
+encoded b =
+    length (b .arities) ∷ length (b .rules) ∷ (padded rulesLength (collect ruleRow (b .rules)) ++ (padded predicateLimit (b .arities) ++ (b .version ∷ 0 ∷ [])))
 
 module _ {A : Type 0} where
   -- what f reads at n places, so many numbers apart
@@ -63,7 +68,7 @@ ruleAt form arities at = record { body = groupAt form arities (suc at); head = s
 unfoldable pub decoded : List ℕ → RuleSet
 decoded form =
     let arities : List ℕ = numbersFrom form aritiesPlace (getD form 0 0) in
-    record { arities = arities; rules = spaced (ruleAt form arities) ruleWidth (getD form 1 0) 2 }
+    record { version = getD form versionPlace 0; arities = arities; rules = spaced (ruleAt form arities) ruleWidth (getD form 1 0) 2 }
 
 -- how many bytes were read or written, or a refusal and its place
 pub data Transfer : Type 0 where
@@ -90,7 +95,7 @@ pub record Writing : Type 0 where
   pub answer : Transfer
   pub bytes : List ℕ
 
--- everything that `write` answers and leaves behind: the first of 4 to 9 that the form's bytes would meet, then refusal 1 for a byte list
+-- everything that `write` answers and leaves behind: the first of 3 to 9 that the form's bytes would meet, then refusal 1 for a byte list
 -- that is shorter than these
 unfoldable pub writing : List ℕ → List ℕ → Writing
 writing form out =
@@ -121,12 +126,12 @@ unfoldable pub countedInRule : List ℕ → ℕ → ℕ → Bool
 countedInRule form at zero = true
 countedInRule form at (suc p) = leb (p / groupWidth) (getD form at 0) && countedInGroup form (suc at + (p / groupWidth) * groupWidth) (p % groupWidth)
 
--- both counts, what counts in so many rules, and so many arities
+-- both counts, what counts in so many rules, so many arities, and behind the last arity there can be the version
 unfoldable pub counted : List ℕ → ℕ → Bool
 counted form zero = true
 counted form (suc zero) = true
 counted form (suc (suc p)) =
     elim (ltb p rulesLength) [
       | true ↦ ltb (p / ruleWidth) (getD form 1 0) && countedInRule form (2 + (p / ruleWidth) * ruleWidth) (p % ruleWidth)
-      | false ↦ ltb (p - rulesLength) (getD form 0 0)
+      | false ↦ ltb (p - rulesLength) (getD form 0 0) || eqb (p - rulesLength) predicateLimit
     ]

@@ -1,16 +1,25 @@
 -- The limits and widths of document 01, each said once. Assumes nothing.
 use Prim.Native.Nat.{ℕ}
 
--- a rule set ("Book bytes")
+-- a rule set ("Book bytes"): the versions of its bytes, and the predicates of version 1 and of version 2 (document 02, C-15)
+abbrev pub lastVersion : ℕ
+lastVersion = 2
+
+abbrev pub narrowLimit : ℕ
+narrowLimit = 64
+
 abbrev pub predicateLimit : ℕ
-predicateLimit = 64
+predicateLimit = 1024
 
 abbrev pub ruleLimit : ℕ
 ruleLimit = 64
 
--- the program hands over one byte more than the longest rule set has
+-- the bytes of the longest rule set; the program hands over one more
+abbrev pub bytesLimit : ℕ
+bytesLimit = 9096
+
 abbrev pub inputLimit : ℕ
-inputLimit = 6856
+inputLimit = 9097
 
 -- the records of the tables ("Lent lists"): a fact is a predicate and four terms; a term is a Skolem function, its arity and eight arguments
 abbrev pub factWidth : ℕ

@@ -1,10 +1,11 @@
 -- Rule sets (document 01: books), what a rule's variables say of it, and the numbering of Skolem functions (001, section 2; document 01, "Words").
 -- Assumes nothing.
 use mathlib.Core.List.{List, [], _∷_}
-use mathlib.Core.Bool.{Bool, false, _&&_, _||_, not}
+use mathlib.Core.Bool.{Bool, true, false, _&&_, _||_, not}
 use Prim.Native.Nat.{ℕ, suc, _+_}
 use lib.Dec.{eqb, ltb}
 use lib.ListN.{length}
+use Rattle.model.specs.Limits.{narrowLimit, predicateLimit}
 use Rattle.model.specs.Lists.{all, any, keep, collect, member}
 
 pub record Atom : Type 0 where
@@ -16,9 +17,18 @@ pub record Rule : Type 0 where
   pub body : List Atom
   pub head : List (List Atom)
 
+-- the version is that of its bytes (document 02, C-15), and says nothing of what the rules mean
 pub record RuleSet : Type 0 where
+  pub version : ℕ
   pub arities : List ℕ
   pub rules : List Rule
+
+-- versions from 2 on have two bytes for the count of predicates and for each predicate's number, and so may have more of them
+unfoldable pub wide : ℕ → Bool
+wide version = ltb 1 version
+
+unfoldable pub mostPredicates : ℕ → ℕ
+mostPredicates version = elim (wide version) [ true ↦ predicateLimit | false ↦ narrowLimit ]
 
 unfoldable pub variablesOf : List Atom → List ℕ
 variablesOf atoms = collect (λ (a : Atom). a .variables) atoms

@@ -79,6 +79,6 @@ declared bytes = elim (read bytes) [ good b i ↦ b .arities | bad n p ↦ [] ]
 unfoldable pub textOf : List ℕ → Checked → List ℕ
 textOf bytes c = text (declared bytes) (c .verdict) (c .terms) (c .facts)
 
--- what the program prints: it checks at depth 1, and hands over at most the first 6,856 bytes of its input
+-- what the program prints: it checks at depth 1, and hands over at most the first 9,097 bytes of its input
 unfoldable pub printed : List ℕ → List ℕ
 printed input = let bytes : List ℕ = take inputLimit input in textOf bytes (checked programDepth bytes (replicate termsFront 0) (replicate factsFront 0))

@@ -1,12 +1,12 @@
--- Well-formed rule sets: what is left when refusals 4 to 9 are excluded (document 01, "Turned back"; 001, Definition 1). Assumes nothing.
+-- Well-formed rule sets: what is left when refusals 3 to 9 are excluded (document 01, "Turned back"; 001, Definition 1). Assumes nothing.
 use mathlib.Core.Path.{_≡_}
 use mathlib.Core.List.{List, List·Memᴰ}
 use mathlib.Core.Bool.{false}
 use Prim.Native.Nat.{ℕ, _≤_, _<_}
 use lib.ListN.{length, getD}
-use Rattle.model.specs.Limits.{predicateLimit, ruleLimit}
+use Rattle.model.specs.Limits.{lastVersion, ruleLimit}
 use Rattle.model.specs.Lists.{any}
-use Rattle.model.specs.Rules.{Atom, Rule, RuleSet, repeated, detached}
+use Rattle.model.specs.Rules.{Atom, Rule, RuleSet, mostPredicates, repeated, detached}
 
 -- refusal 7
 pub record WellFormedAtom (arities : List ℕ) (a : Atom) : Type 0 where
@@ -29,10 +29,12 @@ pub record WellFormedRule (arities : List ℕ) (r : Rule) : Type 0 where
   pub separate : repeated r (r .head) ≡ false
   pub attached : any (detached r) (r .head) ≡ false
 
--- refusals 4 to 9
+-- refusals 3 to 9
 pub record WellFormed (b : RuleSet) : Type 0 where
+  pub first : 1 ≤ b .version
+  pub last : b .version ≤ lastVersion
   pub some : 1 ≤ length (b .arities)
-  pub few : length (b .arities) ≤ predicateLimit
+  pub few : length (b .arities) ≤ mostPredicates (b .version)
   pub arities : (n : ℕ) → List·Memᴰ n (b .arities) → (1 ≤ n) × (n ≤ 4)
   pub short : length (b .rules) ≤ ruleLimit
   pub rules : (r : Rule) → List·Memᴰ r (b .rules) → WellFormedRule (b .arities) r

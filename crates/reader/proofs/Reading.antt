@@ -5,9 +5,11 @@ use Prim.Native.Nat.{ℕ, _+_, _≤_, _<_}
 use native.Mathlib.Omega.{arith}
 use lib.ListN.{length, drop, length-replicate, drop-of-length-le}
 use Rattle.laws_format.proofs.RoundTrip.{reading-good, reading-bad, reading-done}
-use borrow.Author.Tests.{le-leb, lt-leb, eq-eqb, ne-eqb}
+use mathlib.Core.Bool.{true, false}
+use lib.Dec.{eqb}
+use borrow.Author.Tests.{le-leb, lt-leb}
 use Rattle.model.specs.Rules.{RuleSet}
-use Rattle.model.specs.Format.{Parsed, good, bad, stated, ruleSet, read}
+use Rattle.model.specs.Format.{Parsed, good, bad, stated, whole, ruleSet, read}
 use Rattle.model.specs.Form.{formLength, done, refusal, encoded, Reading, reading}
 use Rattle.parsing.specs.Step.{zeros}
 
@@ -20,17 +22,21 @@ unfolding zeros
 zeros-end = let h : length (zeros formLength) ≤ formLength = omega (arith, length-replicate {A = ℕ} formLength 0) in drop-of-length-le (zeros formLength) h
 
 module _ (bs : List ℕ) where
-  pub read-short : length bs < 4 → read bs ≡ bad 2 0
-  unfolding read
-  read-short h = rw (lt-leb 4 (length bs) h, read)
+  pub whole-short : length bs < 4 → whole bs ≡ false
+  unfolding whole
+  whole-short h = rw (lt-leb 4 (length bs) h, whole)
 
-  pub read-misstated : 4 ≤ length bs → (stated bs + 4 ≡ length bs → ⊥) → read bs ≡ bad 2 0
-  unfolding read
-  read-misstated h e = rw (le-leb 4 (length bs) h, ne-eqb (stated bs + 4) (length bs) e, read)
+  pub whole-long : 4 ≤ length bs → whole bs ≡ eqb (stated bs + 4) (length bs)
+  unfolding whole
+  whole-long h = rw (le-leb 4 (length bs) h, whole)
 
-  pub read-stated : 4 ≤ length bs → stated bs + 4 ≡ length bs → read bs ≡ ruleSet bs
+  pub read-cut : whole bs ≡ false → read bs ≡ bad 2 0
   unfolding read
-  read-stated h e = rw (le-leb 4 (length bs) h, eq-eqb (stated bs + 4) (length bs) e, read)
+  read-cut e = rw (e, read)
+
+  pub read-whole : whole bs ≡ true → read bs ≡ ruleSet bs
+  unfolding read
+  read-whole e = rw (e, read)
 
   -- a refusal of a form that is long enough is one of the bytes
   pub reading-refused : (form : List ℕ) → formLength ≤ length form → (n p : ℕ) → reading bs form .answer ≡ refusal n p → read bs ≡ bad n p

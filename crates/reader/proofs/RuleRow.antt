@@ -8,7 +8,7 @@ use lib.Seq.{take-at, drop-at}
 use borrow.Rule.Slice.PartMut.{same-len-mid}
 use Rattle.model.specs.Lists.{padded, collect}
 use Rattle.model.specs.Rules.{Atom}
-use Rattle.model.specs.Format.{good, bad, many, byte, atoms, rule}
+use Rattle.model.specs.Format.{good, bad, many, byte, Signature, atoms, rule}
 use Rattle.model.specs.Form.{group, ruleRow}
 use Rattle.parsing.specs.Step.{zeros, Filled, none, parsedRules}
 use Rattle.reader.specs.Parts.{rulesRow}
@@ -78,13 +78,13 @@ module _ (row : List ℕ) (z : row ≡ zeros 106) where
 
 -- the parse of a rule, once all of it is read
 
-module _ (bs arities : List ℕ) (i j n k e : ℕ) (b : List Atom) (ds : List (List Atom)) (left : List ℕ) (p : atoms bs arities i ≡ good b j) (q : byte bs 1 4 6 j ≡ good n k) (s : many n (atoms bs arities) k ≡ good ds e) where
-  pub rule-good : fault (of b ds) ≡ 0 → left ≡ ruleRow (of b ds) → Filled none ruleRow (rule bs arities i) (Good 0 e) left
+module _ (bs : List ℕ) (sig : Signature) (i j n k e : ℕ) (b : List Atom) (ds : List (List Atom)) (left : List ℕ) (p : atoms bs sig i ≡ good b j) (q : byte bs 1 4 6 j ≡ good n k) (s : many n (atoms bs sig) k ≡ good ds e) where
+  pub rule-good : fault (of b ds) ≡ 0 → left ≡ ruleRow (of b ds) → Filled none ruleRow (rule bs sig i) (Good 0 e) left
   unfolding rule
   rule-good f l =
       continues _ _ _ _ _ _ b j p (continues _ _ _ _ _ _ n k q (continues _ _ _ _ _ _ ds e s (filled-good none ruleRow _ (of b ds) 0 e left (sound-good (of b ds) i e f) refl l)))
 
-  pub rule-bad : (w : ℕ) → fault (of b ds) ≡ w → (w ≡ 0 → ⊥) → Filled none ruleRow (rule bs arities i) (Bad w i) left
+  pub rule-bad : (w : ℕ) → fault (of b ds) ≡ w → (w ≡ 0 → ⊥) → Filled none ruleRow (rule bs sig i) (Bad w i) left
   unfolding rule
   rule-bad w f h =
       continues _ _ _ _ _ _ b j p
@@ -93,8 +93,8 @@ module _ (bs arities : List ℕ) (i j n k e : ℕ) (b : List Atom) (ds : List (L
       (filled-bad none ruleRow _ w i left (sound-bad (of b ds) i e (λ g. h (sym f ∙ g)) ∙ ap (λ (x : ℕ). bad x i) f))))
 
 -- the count of the rules, and the rules
-pub rules-filled : (bs arities : List ℕ) (i n j : ℕ) (place left : List ℕ) (r : Step) → byte bs 0 64 5 i ≡ good n j → place ≡ zeros 6785
-    → Filled none (λ rs. padded 6784 (collect ruleRow rs)) (many n (rule bs arities) j) r left
-    → Filled none rulesRow (parsedRules bs arities i) r (take 1 (set place 0 n) ++ (left ++ drop (length (set place 0 n) - 1) (drop 1 (set place 0 n))))
+pub rules-filled : (bs : List ℕ) (sig : Signature) (i n j : ℕ) (place left : List ℕ) (r : Step) → byte bs 0 64 5 i ≡ good n j → place ≡ zeros 6785
+    → Filled none (λ rs. padded 6784 (collect ruleRow rs)) (many n (rule bs sig) j) r left
+    → Filled none rulesRow (parsedRules bs sig i) r (take 1 (set place 0 n) ++ (left ++ drop (length (set place 0 n) - 1) (drop 1 (set place 0 n))))
 unfolding parsedRules rulesRow
-rules-filled bs arities i n j place left r e z h = continues _ _ _ _ _ _ n j e (counted-filled none ruleRow (rule bs arities) 6784 n j place left r z h)
+rules-filled bs sig i n j place left r e z h = continues _ _ _ _ _ _ n j e (counted-filled none ruleRow (rule bs sig) 6784 n j place left r z h)

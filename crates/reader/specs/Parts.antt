@@ -1,5 +1,5 @@
--- Parts of model's `ruleSet` and of its form: what follows the arities, and the count of the rules with the rules; and the set of a body's
--- variables, kept while its atoms are read (document 02, C-13). Assumes nothing.
+-- Parts of model's `ruleSet` and of its form: what follows the count of predicates, what follows the arities, and the count of the rules with
+-- the rules; and the set of a body's variables, kept while its atoms are read (document 02, C-13). Assumes nothing.
 use mathlib.Core.Path.{_≡_}
 use mathlib.Core.Bool.{true, false}
 use mathlib.Core.List.{List, _∷_}
@@ -9,7 +9,7 @@ use lib.Dec.{eqb}
 use lib.ListN.{length}
 use Rattle.model.specs.Lists.{padded, collect}
 use Rattle.model.specs.Rules.{Atom, Rule, RuleSet}
-use Rattle.model.specs.Format.{Parsed, good, bad, andThen}
+use Rattle.model.specs.Format.{Parsed, good, bad, andThen, many, byte, signed}
 use Rattle.model.specs.Form.{rulesLength, ruleRow}
 use Rattle.form_variables.specs.Sets.{setOf}
 use Rattle.parsing.specs.Step.{parsedRules, atomsSet}
@@ -26,10 +26,13 @@ grownByAtom set a = grownBy set (a .variables)
 abbrev pub Afresh : List Atom → ℕ → Type 0
 Afresh atoms set = atomsSet atoms ≡ set
 
-unfoldable pub afterArities : List ℕ → List ℕ → ℕ → Parsed RuleSet
-afterArities bs arities i =
-    andThen (parsedRules bs arities i) (λ rs e.
-    elim (eqb e (length bs)) [ true ↦ good (record { arities = arities; rules = rs }) e | false ↦ bad 10 e ])
+unfoldable pub afterArities : List ℕ → ℕ → List ℕ → ℕ → Parsed RuleSet
+afterArities bs version arities i =
+    andThen (parsedRules bs (signed version arities) i) (λ rs e.
+    elim (eqb e (length bs)) [ true ↦ good (record { version = version; arities = arities; rules = rs }) e | false ↦ bad 10 e ])
+
+unfoldable pub afterCount : List ℕ → ℕ → ℕ → ℕ → Parsed RuleSet
+afterCount bs version n i = andThen (many n (byte bs 1 4 4) i) (λ arities j. afterArities bs version arities j)
 
 unfoldable pub rulesRow : List Rule → List ℕ
 rulesRow rs = padded (suc rulesLength) (length rs ∷ collect ruleRow rs)

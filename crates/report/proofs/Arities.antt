@@ -12,6 +12,7 @@ use Rattle.model.specs.Format.{Parsed, good, bad, read}
 use Rattle.model.specs.Form.{formLength, aritiesPlace, ruleRow, encoded, Reading, reading}
 use Rattle.model.specs.Stages.{Verdict, accepted, cyclicAt, refused}
 use Rattle.model.specs.Text.{line, lines, acceptedWord, cyclicWord, factWord, loopWord, termNumbers, factNumbers, records, text}
+use Rattle.laws.proofs.WellFormed.{predicates-few}
 use Rattle.laws.proofs.Places.{length-padded, getD-padded}
 use Rattle.laws_format.proofs.Bytes.{read-well-formed}
 use Rattle.laws_format.proofs.Form.{encoded-length}
@@ -20,43 +21,46 @@ use Rattle.text.specs.Lines.{termLines}
 
 -- a list that has the arities of the rule set in the bytes, if there is one
 pub record Declares (bytes arities : List ℕ) : Type 0 where
-  pub room : 64 ≤ length arities
+  pub room : 1024 ≤ length arities
   pub same : (b : RuleSet) (i : ℕ) → read bytes ≡ good b i → (p : ℕ) → getD arities p 0 ≡ getD (b .arities) p 0
 
--- the last 64 numbers of a form
-encoded-arities : (b : RuleSet) → WellFormed b → (rest : List ℕ) → take 64 (drop aritiesPlace (encoded b ++ rest)) ≡ padded 64 (b .arities)
+-- the 1,024 numbers of a form that have them
+encoded-arities : (b : RuleSet) → WellFormed b → (rest : List ℕ) → take 1024 (drop aritiesPlace (encoded b ++ rest)) ≡ padded 1024 (b .arities)
 unfolding encoded
 encoded-arities b w rest =
     let rows : List ℕ = padded 6784 (collect ruleRow (b .rules)) in
-    let q = length-padded 64 (b .arities) (w .few) in
-    let a = length-append rows (padded 64 (b .arities)) in
+    let listed : List ℕ = padded 1024 (b .arities) in
+    let behind : List ℕ = b .version ∷ 0 ∷ [] in
+    let q : length listed ≡ 1024 = length-padded 1024 (b .arities) (predicates-few w) in
+    let a = length-append rows (listed ++ behind) in
+    let d = length-append listed behind in
     let e = encoded-length w in
     let l : length rows ≡ 6784 = omega arith in
-    ap (λ (xs : List ℕ). take 64 (drop 6784 xs)) (append-assoc rows (padded 64 (b .arities)) rest)
-    ∙ ap (take 64) (drop-at rows (padded 64 (b .arities) ++ rest) 6784 l)
-    ∙ take-at (padded 64 (b .arities)) rest 64 q
+    ap (λ (xs : List ℕ). take 1024 (drop 6784 xs)) (append-assoc rows (listed ++ behind) rest)
+    ∙ ap (take 1024) (drop-at rows ((listed ++ behind) ++ rest) 6784 l ∙ append-assoc listed behind rest)
+    ∙ take-at listed (behind ++ rest) 1024 q
 
 -- what `read` leaves has them
-pub reading-declares : (bytes form : List ℕ) → formLength ≤ length form → Declares bytes (take 64 (drop aritiesPlace (reading bytes form .form)))
+pub reading-declares : (bytes form : List ℕ) → formLength ≤ length form → Declares bytes (take 1024 (drop aritiesPlace (reading bytes form .form)))
 reading-declares bytes form h = record { room = room (read bytes) refl; same = same }
   where
     arities : List ℕ
-    arities = take 64 (drop aritiesPlace (reading bytes form .form))
+    arities = take 1024 (drop aritiesPlace (reading bytes form .form))
 
-    read-good : (b : RuleSet) (i : ℕ) → read bytes ≡ good b i → arities ≡ padded 64 (b .arities)
+    read-good : (b : RuleSet) (i : ℕ) → read bytes ≡ good b i → arities ≡ padded 1024 (b .arities)
     read-good b i e =
-        ap (λ (r : Reading). take 64 (drop aritiesPlace (r .form))) (reading-good bytes form b i h e)
+        ap (λ (r : Reading). take 1024 (drop aritiesPlace (r .form))) (reading-good bytes form b i h e)
         ∙ encoded-arities b (read-well-formed bytes b i e) (drop formLength form)
 
-    room : (r : Parsed RuleSet) → read bytes ≡ r → 64 ≤ length arities
-    room (good b i) e = let k = ap length (read-good b i e) ∙ length-padded 64 (b .arities) (read-well-formed bytes b i e .few) in omega arith
+    room : (r : Parsed RuleSet) → read bytes ≡ r → 1024 ≤ length arities
+    room (good b i) e = let k = ap length (read-good b i e) ∙ length-padded 1024 (b .arities) (predicates-few (read-well-formed bytes b i e)) in omega arith
     room (bad n p) e =
-        let k = ap (λ (r : Reading). length (take 64 (drop aritiesPlace (r .form)))) (reading-bad bytes form n p h e) in
-        let l : 64 ≤ length (take 64 (drop aritiesPlace form)) = rw (length-take, length-drop) (omega arith) in
+        let k = ap (λ (r : Reading). length (take 1024 (drop aritiesPlace (r .form)))) (reading-bad bytes form n p h e) in
+        let l : 1024 ≤ length (take 1024 (drop aritiesPlace form)) = rw (length-take, length-drop) (omega arith) in
         omega arith
 
     same : (b : RuleSet) (i : ℕ) → read bytes ≡ good b i → (p : ℕ) → getD arities p 0 ≡ getD (b .arities) p 0
-    same b i e p = ap (λ (xs : List ℕ). getD xs p 0) (read-good b i e) ∙ getD-padded 64 (b .arities) p
+    same b i e p = ap (λ (xs : List ℕ). getD xs p 0) (read-good b i e) ∙ getD-padded 1024 (b .arities) p
 
 -- the same arities give the same text
 

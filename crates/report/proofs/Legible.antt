@@ -59,8 +59,8 @@ module _ {arities : List ℕ} {s : stages.Stage} {us : List Term} (h : Recorded 
       ∙ ap (λ (xs : List ℕ). getD xs 0 0)
       (ap (row 5 i) e ∙ row-collect 5 (factRow (s .terms)) (s .facts) rest none (λ f k. length-factRow (h .facts f k)) i m)
 
-  -- whatever list has the arities, and room for 64 of them
-  recorded-facts : (as′ : List ℕ) → 64 ≤ length as′ → ((p : ℕ) → getD as′ p 0 ≡ getD arities p 0)
+  -- whatever list has the arities, and room for 1,024 of them
+  recorded-facts : (as′ : List ℕ) → 1024 ≤ length as′ → ((p : ℕ) → getD as′ p 0 ≡ getD arities p 0)
       → LegibleFacts as′ (recorded v s us terms₀ facts₀ .facts) (length (s .facts))
   recorded-facts as′ r g =
       let (rest, e) = facts-begin h v terms₀ facts₀ in
@@ -81,11 +81,11 @@ module _ {depth : ℕ} {b : RuleSet} {v : stages.Verdict} {n f t : ℕ} {more : 
   held-terms =
       rw (h .tables terms₀ facts₀, h .terms, ← length-append (stages.stage b n .terms) more) (recorded-terms (h .records) (h .within) v terms₀ facts₀)
 
-  held-facts : (as′ : List ℕ) → 64 ≤ length as′ → ((p : ℕ) → getD as′ p 0 ≡ getD (b .arities) p 0) → LegibleFacts as′ (left depth b v terms₀ facts₀ .facts) f
+  held-facts : (as′ : List ℕ) → 1024 ≤ length as′ → ((p : ℕ) → getD as′ p 0 ≡ getD (b .arities) p 0) → LegibleFacts as′ (left depth b v terms₀ facts₀ .facts) f
   held-facts as′ r g = rw (h .tables terms₀ facts₀, h .facts) (recorded-facts (h .records) (h .within) v terms₀ facts₀ as′ r g)
 
 -- the tables of a rule set that was judged, by its verdict
-left-legible : (depth : ℕ) (b : RuleSet) → WellFormed b → (terms₀ facts₀ as′ : List ℕ) → 64 ≤ length as′ → ((p : ℕ) → getD as′ p 0 ≡ getD (b .arities) p 0)
+left-legible : (depth : ℕ) (b : RuleSet) → WellFormed b → (terms₀ facts₀ as′ : List ℕ) → 1024 ≤ length as′ → ((p : ℕ) → getD as′ p 0 ≡ getD (b .arities) p 0)
     → (v : Verdict) → stages.verdict depth b ≡ meant v → Legible as′ v (left depth b (meant v) terms₀ facts₀ .terms) (left depth b (meant v) terms₀ facts₀ .facts)
 left-legible depth b w terms₀ facts₀ as′ r g (Accepted n f t) e =
     let h = accepted-held depth b w e in (fewer-terms (held-terms h terms₀ facts₀) t (omega arith), held-facts h terms₀ facts₀ as′ r g)

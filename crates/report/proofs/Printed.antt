@@ -1,4 +1,4 @@
--- What `write_text` writes after a check, with the arities out of a form, is the text that the model gives, and 72,767 bytes have room for it.
+-- What `write_text` writes after a check, with the arities out of a form, is the text that the model gives, and 76,863 bytes have room for it.
 -- Assumes nothing.
 use mathlib.Core.Path.{_≡_, refl, sym, ap, _∙_}
 use mathlib.Core.List.{List}

@@ -16,7 +16,7 @@ use Rattle.dmfa.specs.Promises.{Checks}
 
 -- so many bytes have room for every text
 abbrev pub textRoom : ℕ
-textRoom = 72767
+textRoom = 76863
 
 pub record Printing : Type 0 where
   pub answer : Transfer

@@ -1,7 +1,8 @@
 // `print`: the check and the text of its answer, for bytes of a rule set. The contracts cite specs/Printing.
 use dmfa::verdict::Verdict;
+use form::layout::ARITIES;
 use form::layout::LENGTH;
-use form::layout::arity_place;
+use form::layout::VERSION;
 use reader::Transfer;
 ghost use Prim.Native.Nat.{_≤_};
 ghost use lib.ListN.{length};
@@ -15,7 +16,7 @@ pub const TERMS_FRONT: usize = 5130;
 
 pub const FACTS_FRONT: usize = 10240;
 
-pub const TEXT_ROOM: usize = 72767;
+pub const TEXT_ROOM: usize = 76863;
 
 // The text of the check's answer on these bytes. The arities stand in the form, whose places are 0 where the bytes are refused.
 fn write_answer(
@@ -30,8 +31,7 @@ fn write_answer(
 {
     let mut form = [0u16; LENGTH];
     reader::read(bytes, &mut form);
-    let first = arity_place(0);
-    text::write_text(verdict, &form[first..LENGTH], terms, facts, &mut *out)
+    text::write_text(verdict, &form[ARITIES..VERSION], terms, facts, &mut *out)
 }
 
 // Runs the check at a depth, and leaves the text of its answer in the front of `out`: answers how many bytes, or refusal 1 for a list too short,

@@ -11,7 +11,7 @@ ghost use Rattle.model.specs.Text.{printed};
 ghost use Rattle.report.specs.Printing.{textRoom};
 
 // One byte more than the longest rule set has (model's `inputLimit`).
-const INPUT_LIMIT: usize = 6856;
+const INPUT_LIMIT: usize = 9097;
 
 // The program's depth (model's `programDepth`).
 const DEPTH: usize = 1;

@@ -1,4 +1,5 @@
-// Lists of bytes that were full of the mark, which no text has, and no book but in its length. The contracts cite specs/Same.
+// Lists of bytes that were full of the mark, which no text has, and a book only in its length or in the second byte of a number. The contracts cite
+// specs/Same.
 ghost use mathlib.Core.Path.{_≡_};
 ghost use lib.ListN.{getD};
 ghost use Rattle.test_support.specs.Same.{Decides, front, byteMark};

@@ -16,7 +16,7 @@ const LARGEST: u16 = 65535;
 
 const STAGE: usize = 1000;
 
-const INPUT_LIMIT: usize = 6856;
+const INPUT_LIMIT: usize = 9097;
 
 fn show(verdict: Verdict, arities: &[u16], terms: &[u16], facts: &[u16])
     requires { ⌜ Legible (now arities) verdict (now terms) (now facts) × (length (text (now arities) (meant verdict) (now terms) (now facts)) ≤ 256) ⌝ }

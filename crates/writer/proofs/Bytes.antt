@@ -10,15 +10,16 @@ use lib.Dec.{eqb}
 use lib.ListN.{length, getD, take, drop, length-set}
 use lib.Seq.{length-take-le, getD-take, getD-drop, ext-getD}
 use borrow.Author.Tests.{eqb-true}
-use Rattle.model.specs.Rules.{RuleSet, Rule}
-use Rattle.model.specs.Format.{Parsed, good, bad, andThen, many, byte, rule, ruleSet, content, bigEndian, bytesOf}
+use Rattle.model.specs.Limits.{lastVersion}
+use Rattle.model.specs.Rules.{RuleSet, Rule, wide, mostPredicates}
+use Rattle.model.specs.Format.{Parsed, good, bad, andThen, many, byte, number, signed, rule, ruleSet, content, bigEndian, bytesOf}
 use Rattle.model.specs.Form.{decoded, writing, done}
 use Rattle.laws.proofs.Bools.{case}
 use Rattle.laws_format.proofs.Bytes.{bytesOf-length}
 use Rattle.laws_format.proofs.RoundTrip.{decoded-fault, writing-good}
 use Rattle.laws_format.proofs.Format.{andThen-assoc}
 use Rattle.parsing.specs.Step.{parsedRules}
-use Rattle.writer.specs.Writes.{Agree, parsedContent, lengthened}
+use Rattle.writer.specs.Writes.{Agree, parsedContent, afterVersion, afterCount, lengthened}
 
 -- the parse of all that follows the length, and the test that the bytes end there
 
@@ -37,13 +38,13 @@ module _ (bs : List ℕ) where
   made-tested (bad n p) f = refl
 
   pub content-tested : ruleSet bs ≡ andThen (parsedContent bs) tested
-  unfolding ruleSet parsedContent parsedRules
+  unfolding ruleSet parsedContent afterVersion afterCount parsedRules
   content-tested =
-      then-tested (byte bs 1 1 3 4) _ _ (λ v i.
-      then-tested (byte bs 1 64 4 i) _ _ (λ n j.
+      then-tested (byte bs 1 lastVersion 3 4) _ _ (λ v i.
+      then-tested (number (wide v) bs 1 (mostPredicates v) 4 i) _ _ (λ n j.
       then-tested (many n (byte bs 1 4 4) j) _ _ (λ ar k.
-      sym (andThen-assoc (byte bs 0 64 5 k) (λ m l. many m (rule bs ar) l) (λ rs e. tested (record { arities = ar; rules = rs }) e))
-      ∙ made-tested (andThen (byte bs 0 64 5 k) (λ m l. many m (rule bs ar) l)) (λ (rs : List Rule). record { arities = ar; rules = rs }))))
+      sym (andThen-assoc (byte bs 0 64 5 k) (λ m l. many m (rule bs (signed v ar)) l) (λ rs e. tested (record { version = v; arities = ar; rules = rs }) e))
+      ∙ made-tested (andThen (byte bs 0 64 5 k) (λ m l. many m (rule bs (signed v ar)) l)) (λ (rs : List Rule). record { version = v; arities = ar; rules = rs }))))
 
 lengthened-is : (xs : List ℕ) (n : ℕ) → 4 ≤ length xs → lengthened xs n ≡ 0 ∷ 0 ∷ n / 256 ∷ n % 256 ∷ drop 4 xs
 lengthened-is [] n h = absurd (omega arith)
@@ -73,7 +74,7 @@ module _ (form : List ℕ) where
 
   -- the list with its length is the bytes
 
-  module _ (local : List ℕ) (e : ℕ) (g : Agree bytes e local) (l : length local ≡ 6855) (m : e ≤ 6855) (s : e ≡ length bytes) where
+  module _ (local : List ℕ) (e : ℕ) (g : Agree bytes e local) (l : length local ≡ 9096) (m : e ≤ 9096) (s : e ≡ length bytes) where
     abbrev whole : List ℕ
     whole = lengthened local (e - 4)
 
@@ -115,7 +116,7 @@ module _ (form : List ℕ) where
         let n : 4 + k ≡ suc (suc (suc (suc k))) = omega arith in
         at-front (suc (suc (suc (suc k)))) ∙ getD-drop 4 local k 0 ∙ ap (λ (x : ℕ). getD local x 0) n ∙ g .at (suc (suc (suc (suc k)))) h i
 
-    pub whole-length : length whole ≡ 6855
+    pub whole-length : length whole ≡ 9096
     whole-length = simp length-set l
 
     pub front-length : length (take e whole) ≡ e

@@ -1,6 +1,7 @@
 pub mod AtomWriting
 pub mod Bytes
 pub mod ContentWriting
+pub mod Numbers
 pub mod RoundTrip
 pub mod RuleWriting
 pub mod Spelling

@@ -5,15 +5,15 @@ use mathlib.Core.List.{List, _++_}
 use Prim.Native.Nat.{ℕ, _≤_}
 use lib.ListN.{length, take, drop}
 use Rattle.model.specs.Form.{encoded, decoded, Reading, reading, Writing, writing}
-use Rattle.laws_format.proofs.Bytes.{Bytes}
+use Rattle.laws_format.proofs.Parsers.{Bytes}
 use Rattle.laws_format.proofs.RoundTrip.{written-read, read-written}
 use Rattle.reader.specs.Transfer.{Reads}
 use Rattle.reader.specs.declared.Transfer.the-variants.{Done}
 use Rattle.writer.specs.Contract.{WritesBytes}
 
 -- Reading a written rule set gives the same one in the counted places, and 0 in the others.
-pub write-then-read : (form out left other : List ℕ) (n : ℕ) → WritesBytes form out (Done n) left → 6850 ≤ length other
-    → Reads (take n left) other (Done n) (encoded (decoded form) ++ drop 6850 other)
+pub write-then-read : (form out left other : List ℕ) (n : ℕ) → WritesBytes form out (Done n) left → 7812 ≤ length other
+    → Reads (take n left) other (Done n) (encoded (decoded form) ++ drop 7812 other)
 write-then-read form out left other n w h =
     ap (λ (x : Writing). reading (take n (x .bytes)) other) (sym w) ∙ written-read form out other n (ap (λ (x : Writing). x .answer) w) h
 

@@ -5,8 +5,8 @@ use Prim.Native.Nat.{ℕ, suc, _+_}
 use native.Mathlib.Omega.{arith}
 use lib.ListN.{length, getD, drop}
 use Rattle.model.specs.Lists.{collect}
-use Rattle.model.specs.Rules.{Atom, Rule}
-use Rattle.model.specs.Format.{Parsed, bad, andThen, many, byte, atoms, sound, rule, atomsBytes, ruleBytes}
+use Rattle.model.specs.Rules.{Atom, Rule, wide}
+use Rattle.model.specs.Format.{Parsed, bad, andThen, many, byte, signed, atoms, sound, rule, atomsBytes, ruleBytes}
 use Rattle.model.specs.Form.{spaced, groupAt, ruleAt}
 use Rattle.laws.proofs.Places.{length-spaced}
 use Rattle.parsing.specs.Step.{value, none, atomsSet}
@@ -59,53 +59,53 @@ module _ (b : List Atom) (i : ℕ) (heads : List ℕ → Parsed (List (List Atom
 
 -- body, count and disjuncts
 
-module _ (form arities : List ℕ) (at i v : ℕ) (before mid : List ℕ) (r : Step) (here : v ≡ getD form at 0) (place : ℕ) (there : place ≡ at + 1)
-    (h : Writes atomsSet (λ bs. atoms bs arities i) i (atomsBytes (groupAt form arities place)) before r mid) where
+module _ (form : List ℕ) (version : ℕ) (arities : List ℕ) (at i v : ℕ) (before mid : List ℕ) (r : Step) (here : v ≡ getD form at 0) (place : ℕ) (there : place ≡ at + 1)
+    (h : Writes atomsSet (λ bs. atoms bs (signed version arities) i) i (atomsBytes (wide version) (groupAt form arities place)) before r mid) where
   abbrev heads : List (List Atom)
   heads = spaced (groupAt form arities) 21 v (at + 22)
 
   abbrev later : List ℕ
-  later = (v ∷ []) ++ collect atomsBytes heads
+  later = (v ∷ []) ++ collect (atomsBytes (wide version)) heads
 
-  rule-spelled : atomsBytes (groupAt form arities place) ++ later ≡ ruleBytes (ruleAt form arities at)
+  rule-spelled : atomsBytes (wide version) (groupAt form arities place) ++ later ≡ ruleBytes (wide version) (ruleAt form arities at)
   unfolding ruleBytes ruleAt
   rule-spelled =
       let o : place ≡ suc at = omega arith in
-      let s : later ≡ length heads ∷ collect atomsBytes heads = ap (λ (x : ℕ). x ∷ collect atomsBytes heads) (sym (length-spaced (groupAt form arities) 21 v (at + 22))) in
+      let s : later ≡ length heads ∷ collect (atomsBytes (wide version)) heads = ap (λ (x : ℕ). x ∷ collect (atomsBytes (wide version)) heads) (sym (length-spaced (groupAt form arities) 21 v (at + 22))) in
       rw (o, s, here)
 
-  pub body-refused : (m p : ℕ) (after : List ℕ) → r ≡ Bad m p → Writes none (λ bs. rule bs arities i) i (ruleBytes (ruleAt form arities at)) before r after
+  pub body-refused : (m p : ℕ) (after : List ℕ) → r ≡ Bad m p → Writes none (λ bs. rule bs (signed version arities) i) i (ruleBytes (wide version) (ruleAt form arities at)) before r after
   unfolding rule
   body-refused m p after e =
       writes-as none _ i _ _ before r after rule-spelled
-      (writes-refused atomsSet none (λ bs. atoms bs arities i) _ i (atomsBytes (groupAt form arities place)) later before r mid h m p after e)
+      (writes-refused atomsSet none (λ bs. atoms bs (signed version arities) i) _ i (atomsBytes (wide version) (groupAt form arities place)) later before r mid h m p after e)
 
   module _ (set j : ℕ) (e : r ≡ Good set j) (r2 : Step) (mid2 : List ℕ) (f : Writes value (λ bs. byte bs 1 4 6 j) j (v ∷ []) mid r2 mid2) where
-    pub count-refused : (m p : ℕ) (after : List ℕ) → r2 ≡ Bad m p → Writes none (λ bs. rule bs arities i) i (ruleBytes (ruleAt form arities at)) before r2 after
+    pub count-refused : (m p : ℕ) (after : List ℕ) → r2 ≡ Bad m p → Writes none (λ bs. rule bs (signed version arities) i) i (ruleBytes (wide version) (ruleAt form arities at)) before r2 after
     unfolding rule
     count-refused m p after g =
         writes-as none _ i _ _ before r2 after rule-spelled
-        (writes-then atomsSet none (λ bs. atoms bs arities i) _ i (atomsBytes (groupAt form arities place)) later before r mid h set j r2 after e
-        (λ b k. writes-refused value none (λ bs. byte bs 1 4 6 j) _ j (v ∷ []) (collect atomsBytes heads) mid r2 mid2 f m p after g))
+        (writes-then atomsSet none (λ bs. atoms bs (signed version arities) i) _ i (atomsBytes (wide version) (groupAt form arities place)) later before r mid h set j r2 after e
+        (λ b k. writes-refused value none (λ bs. byte bs 1 4 6 j) _ j (v ∷ []) (collect (atomsBytes (wide version)) heads) mid r2 mid2 f m p after g))
 
-    pub rule-written : (u k : ℕ) (s : Step) (after : List ℕ) → r2 ≡ Good u k → Took r2 v 1 4 j
+    pub rule-written : (u k : ℕ) (s : Step) (after : List ℕ) → r2 ≡ Good u k → Took r2 v 4 j
         → ((b : List Atom) → set ≡ atomsSet b
-        → Writes none (λ bs. andThen (many u (atoms bs arities) k) (λ ds l. sound (of b ds) i l)) k (collect atomsBytes (spaced (groupAt form arities) 21 u (at + 22))) mid2 s after)
-        → Writes none (λ bs. rule bs arities i) i (ruleBytes (ruleAt form arities at)) before s after
+        → Writes none (λ bs. andThen (many u (atoms bs (signed version arities)) k) (λ ds l. sound (of b ds) i l)) k (collect (atomsBytes (wide version)) (spaced (groupAt form arities) 21 u (at + 22))) mid2 s after)
+        → Writes none (λ bs. rule bs (signed version arities) i) i (ruleBytes (wide version) (ruleAt form arities at)) before s after
     unfolding rule
     rule-written u k s after g t w =
         writes-as none _ i _ _ before s after rule-spelled
-        (writes-then atomsSet none (λ bs. atoms bs arities i) _ i (atomsBytes (groupAt form arities place)) later before r mid h set j s after e
+        (writes-then atomsSet none (λ bs. atoms bs (signed version arities) i) _ i (atomsBytes (wide version) (groupAt form arities place)) later before r mid h set j s after e
         (λ b x.
-        writes-then value none (λ bs. byte bs 1 4 6 j) _ j (v ∷ []) (collect atomsBytes heads) mid r2 mid2 f u k s after g
+        writes-then value none (λ bs. byte bs 1 4 6 j) _ j (v ∷ []) (collect (atomsBytes (wide version)) heads) mid r2 mid2 f u k s after g
         (λ n y. rest b (sym x) n y)))
       where
         same : u ≡ v
         same = t .same u k g
 
         rest : (b : List Atom) → set ≡ atomsSet b → (n : ℕ) → n ≡ u
-            → Writes none (λ bs. andThen (many n (atoms bs arities) k) (λ ds l. sound (of b ds) i l)) k (collect atomsBytes heads) mid2 s after
+            → Writes none (λ bs. andThen (many n (atoms bs (signed version arities)) k) (λ ds l. sound (of b ds) i l)) k (collect (atomsBytes (wide version)) heads) mid2 s after
         rest b x n y =
-            subst (λ (z : ℕ). Writes none (λ bs. andThen (many z (atoms bs arities) k) (λ ds l. sound (of b ds) i l)) k (collect atomsBytes heads) mid2 s after) (sym y)
-            (subst (λ (z : ℕ). Writes none (λ bs. andThen (many u (atoms bs arities) k) (λ ds l. sound (of b ds) i l)) k (collect atomsBytes (spaced (groupAt form arities) 21 z (at + 22))) mid2 s after) same
+            subst (λ (z : ℕ). Writes none (λ bs. andThen (many z (atoms bs (signed version arities)) k) (λ ds l. sound (of b ds) i l)) k (collect (atomsBytes (wide version)) heads) mid2 s after) (sym y)
+            (subst (λ (z : ℕ). Writes none (λ bs. andThen (many u (atoms bs (signed version arities)) k) (λ ds l. sound (of b ds) i l)) k (collect (atomsBytes (wide version)) (spaced (groupAt form arities) 21 z (at + 22))) mid2 s after) same
             (w b x))

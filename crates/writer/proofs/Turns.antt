@@ -36,34 +36,34 @@ module _ {A : Type 0} (f : ℕ → A) (spell : A → List ℕ) (w at count : ℕ
   unfolding spaced collect
   rest-none k h = let m : count - k ≡ 0 = omega arith in rw m
 
--- k values of `count` are written, at most w bytes each, and s is what the loop keeps of them
-pub record Turns {A S : Type 0} (p : List ℕ → ℕ → Parsed A) (Kept : List A → S → Type 0) (f : ℕ → A) (spell : A → List ℕ) (w at count i : ℕ) (before : List ℕ) (k j : ℕ) (s : S) (now : List ℕ) : Type 0 where
+-- k values of `count` are written, at most `size` bytes each, and s is what the loop keeps of them
+pub record Turns {A S : Type 0} (p : List ℕ → ℕ → Parsed A) (Kept : List A → S → Type 0) (f : ℕ → A) (spell : A → List ℕ) (w size at count i : ℕ) (before : List ℕ) (k j : ℕ) (s : S) (now : List ℕ) : Type 0 where
   pub within : k ≤ count
-  pub most : j ≤ i + w * k
-  pub size : length now ≡ length before
+  pub most : j ≤ i + size * k
+  pub length-kept : length now ≡ length before
   pub writing : Writing p Kept count i (collect spell (spaced f w count at)) before k j s (rest f spell w at count k) now
 
-pub turns-begun : {A S : Type 0} {p : List ℕ → ℕ → Parsed A} {Kept : List A → S → Type 0} {f : ℕ → A} {spell : A → List ℕ} {w at count i : ℕ} {before : List ℕ} {s : S} → Kept [] s
-    → Turns p Kept f spell w at count i before 0 i s before
-turns-begun {p = p} {Kept = Kept} {f = f} {spell = spell} {w = w} {at = at} {count = count} {i = i} {before = before} {s = s} h =
+pub turns-begun : {A S : Type 0} {p : List ℕ → ℕ → Parsed A} {Kept : List A → S → Type 0} {f : ℕ → A} {spell : A → List ℕ} {w size at count i : ℕ} {before : List ℕ} {s : S} → Kept [] s
+    → Turns p Kept f spell w size at count i before 0 i s before
+turns-begun {p = p} {Kept = Kept} {f = f} {spell = spell} {w = w} {size = size} {at = at} {count = count} {i = i} {before = before} {s = s} h =
     record {
       within = omega arith;
       most = omega arith;
-      size = refl;
+      length-kept = refl;
       writing = writing-begun p Kept count i _ before s _ (rest-whole f spell w at count) h;
     }
 
-module _ {A S : Type 0} {p : List ℕ → ℕ → Parsed A} {Kept : List A → S → Type 0} {f : ℕ → A} {spell : A → List ℕ} {w at count i : ℕ} {before : List ℕ} {k j : ℕ} {s : S} {now : List ℕ}
-    (h : Turns p Kept f spell w at count i before k j s now) where
+module _ {A S : Type 0} {p : List ℕ → ℕ → Parsed A} {Kept : List A → S → Type 0} {f : ℕ → A} {spell : A → List ℕ} {w size at count i : ℕ} {before : List ℕ} {k j : ℕ} {s : S} {now : List ℕ}
+    (h : Turns p Kept f spell w size at count i before k j s now) where
   -- what a turn writes
   module _ (keep : A → ℕ) (place : ℕ) (r : Step) (now′ : List ℕ) (b : k < count) (e : place ≡ at + k * w) (d : Writes keep (λ bs. p bs j) j (spell (f place)) now r now′) where
-    pub turns-more : (v next : ℕ) (s′ : S) → r ≡ Good v next → Ends r j w → length now′ ≡ length now
-        → ((a : A) → keep a ≡ v → (done : List A) → Kept done s → Kept (done ++ (a ∷ [])) s′) → Turns p Kept f spell w at count i before (k + 1) next s′ now′
+    pub turns-more : (v next : ℕ) (s′ : S) → r ≡ Good v next → Ends r j size → length now′ ≡ length now
+        → ((a : A) → keep a ≡ v → (done : List A) → Kept done s → Kept (done ++ (a ∷ [])) s′) → Turns p Kept f spell w size at count i before (k + 1) next s′ now′
     turns-more v next s′ g m l step =
         record {
           within = omega arith;
-          most = let x = m .most v next g in let y = h .most in omega (arith, mul-add w k 1, mul-one w);
-          size = l ∙ h .size;
+          most = let x = m .most v next g in let y = h .most in omega (arith, mul-add size k 1, mul-one size);
+          length-kept = l ∙ h .length-kept;
           writing = writing-more p Kept count i _ before k j s _ now (h .writing) keep _ _ now′ r v next s′ b (rest-next f spell w at count k place b e) g d step;
         }
 

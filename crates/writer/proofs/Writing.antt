@@ -38,12 +38,12 @@ ends-bad n p i w = record { most = λ v j e. absurd (let z : _≡_ {A = ℕ} 0 1
 pub ends-good : (v j i w : ℕ) → j ≤ i + w → Ends (Good v j) i w
 ends-good v j i w h = record { most = λ u k e. let f : j ≡ k = cc in omega arith }
 
-bad-good : {P : Type 0} (n p u j : ℕ) → Bad n p ≡ Good u j → P
+pub bad-good : {P : Type 0} (n p u j : ℕ) → Bad n p ≡ Good u j → P
 bad-good n p u j e = absurd (let z : _≡_ {A = ℕ} 0 1 = cc in omega arith)
 
-pub took-bad : (n p v low high i : ℕ) → Took (Bad n p) v low high i
-took-bad n p v low high i =
-    record { same = λ u j e. bad-good n p u j e; least = λ u j e. bad-good n p u j e; most = λ u j e. bad-good n p u j e; next = λ u j e. bad-good n p u j e }
+pub took-bad : (n p v high i : ℕ) → Took (Bad n p) v high i
+took-bad n p v high i =
+    record { same = λ u j e. bad-good n p u j e; most = λ u j e. bad-good n p u j e; next = λ u j e. bad-good n p u j e }
 
 pub small-bad : (n p : ℕ) (arities : List ℕ) → Small (Bad n p) arities
 small-bad n p arities = record { each = λ v j e. bad-good n p v j e }
@@ -51,11 +51,21 @@ small-bad n p arities = record { each = λ v j e. bad-good n p v j e }
 pub small-good : (v j : ℕ) (arities : List ℕ) → ((p : ℕ) → getD arities p 0 ≤ 4) → Small (Good v j) arities
 small-good v j arities h = record { each = λ u k e. h }
 
-pub took-good : (v low high i : ℕ) → low ≤ v → v ≤ high → Took (Good v (i + 1)) v low high i
-took-good v low high i h k =
-    record { same = λ u j e. let f : v ≡ u = cc in sym f; least = λ u j e. h; most = λ u j e. k; next = λ u j e. let f : i + 1 ≡ j = cc in sym f }
+pub took-good : (v high i : ℕ) → v ≤ high → Took (Good v (i + 1)) v high i
+took-good v high i k =
+    record { same = λ u j e. let f : v ≡ u = cc in sym f; most = λ u j e. k; next = λ u j e. let f : i + 1 ≡ j = cc in sym f }
 
 -- one byte
+
+-- a list agrees with bytes for one more, once that is set
+pub agree-more : (v i : ℕ) (before bs : List ℕ) → i < length before → Agree bs i before → getD bs i 0 ≡ v → Agree bs (i + 1) (set before i v)
+agree-more v i before bs h g e = record { at = λ k l m. go k l m (decLt k i) }
+  where
+    go : (k : ℕ) → 4 ≤ k → k < i + 1 → Dec (k < i) → getD (set before i v) k 0 ≡ getD bs k 0
+    go k l m (yes n) = getD-set-other before i k v 0 (omega arith) ∙ g .at k l n
+    go k l m (no n) =
+        let s : k ≡ i = omega arith in
+        ap (λ (x : ℕ). getD (set before i v) x 0) s ∙ getD-set-same before i v 0 h ∙ sym e ∙ ap (λ (x : ℕ). getD bs x 0) (sym s)
 
 module _ (v low high refusal i : ℕ) (before : List ℕ) where
   pub writes-below : v < low → (after : List ℕ) → Writes value (λ bs. byte bs low high refusal i) i (v ∷ []) before (Bad refusal i) after
@@ -76,22 +86,13 @@ module _ (v low high refusal i : ℕ) (before : List ℕ) where
             written-bad value _ bs rest refusal i after (byte-above bs low high refusal i l (omega arith) (omega arith));
       }
 
-  agree-more : (bs : List ℕ) → i < length before → Agree bs i before → getD bs i 0 ≡ v → Agree bs (i + 1) (set before i v)
-  agree-more bs h g e = record { at = λ k l m. go k l m (decLt k i) }
-    where
-      go : (k : ℕ) → 4 ≤ k → k < i + 1 → Dec (k < i) → getD (set before i v) k 0 ≡ getD bs k 0
-      go k l m (yes n) = getD-set-other before i k v 0 (omega arith) ∙ g .at k l n
-      go k l m (no n) =
-          let s : k ≡ i = omega arith in
-          ap (λ (x : ℕ). getD (set before i v) x 0) s ∙ getD-set-same before i v 0 h ∙ sym e ∙ ap (λ (x : ℕ). getD bs x 0) (sym s)
-
   pub writes-within : low ≤ v → v ≤ high → i < length before → Writes value (λ bs. byte bs low high refusal i) i (v ∷ []) before (Good v (i + 1)) (set before i v)
   writes-within h k w =
       record {
         run =
             λ bs rest d g.
             let (l, e) = drop-place bs i v rest d in
-            written-good value _ bs rest (getD bs i 0) v (i + 1) (set before i v) (byte-within bs low high refusal i l (omega arith) (omega arith)) e (agree-more bs w g e)
+            written-good value _ bs rest (getD bs i 0) v (i + 1) (set before i v) (byte-within bs low high refusal i l (omega arith) (omega arith)) e (agree-more v i before bs w g e)
             (drop-past bs (v ∷ []) rest i d);
       }
 

@@ -2,29 +2,36 @@
 // parser of model's `Format` reads, and answers the parser's step (`Writes` of specs/Writes.antt).
 use form::layout::PREDICATE_COUNT;
 use form::layout::RULE_COUNT;
+use form::layout::VERSION;
 use form::layout::arity_place;
 use form::layout::atom_place;
 use form::layout::group_place;
 use form::layout::rule_place;
 use parsing::Step;
 use parsing::faults::Disjuncts;
+use parsing::is_wide;
+use parsing::most_predicates;
 use reader::Transfer;
 ghost use mathlib.Core.Path.{_≡_};
 ghost use mathlib.Core.List.{[], _∷_};
 ghost use Prim.Native.Nat.{suc, _+_, _-_, _*_, _≤_, _<_};
 ghost use lib.ListN.{length, getD};
 ghost use Rattle.model.specs.Lists.{numbersFrom, collect};
-ghost use Rattle.model.specs.Format.{many, atomBytes, atomsBytes, ruleBytes, content};
+ghost use Rattle.model.specs.Rules.{wide, mostPredicates};
+ghost use Rattle.model.specs.Format.{many, numberBytes, atomBytes, atomsBytes, ruleBytes, content};
 ghost use Rattle.model.specs.Format as format;
-ghost use Rattle.model.specs.Limits.{predicateLimit, ruleLimit, factWidth};
-ghost use Rattle.model.specs.Form.{groupWidth, ruleWidth, rulesLength, spaced, atomAt, groupAt, ruleAt, decoded};
+ghost use Rattle.model.specs.Limits.{predicateLimit, ruleLimit, factWidth, bytesLimit};
+ghost use Rattle.model.specs.Form.{groupWidth, ruleWidth, spaced, atomAt, groupAt, ruleAt, decoded};
 ghost use Rattle.form_variables.specs.Sets.{setOf};
 ghost use Rattle.parsing.specs.Step.{value, none, atomSet, atomsSet, parsedRules};
 ghost use Rattle.writer.specs.Contract.{WritesBytes};
-ghost use Rattle.writer.specs.Writes.{Fits, Declared, Writes, WritesHead, Ends, Took, Small, aritiesIn, parsedContent, rulesBytes, rulesAt, contentRoom, bytesRoom, lengthened};
+ghost use Rattle.writer.specs.Writes.{Fits, Declared, Writes, WritesHead, Ends, Took, Ranged, Small, aritiesIn, signatureIn, parsedContent, afterVersion, rulesBytes, rulesAt, declaredBytes, atomRoom, groupRoom, ruleRoom, rulesRoom, declaredRoom, contentRoom, lengthened};
 
-// Room for the bytes of the longest rule set (specs/Writes, `bytesRoom`).
-const BYTES_ROOM: usize = 6855;
+// Room for the bytes of the longest rule set (model's `bytesLimit`).
+const BYTES_ROOM: usize = 9096;
+
+// The last version there is.
+const LAST_VERSION: u8 = 2;
 
 // A place of the form; one that a short form lacks reads as 0.
 fn number(form: &[u16], at: usize) -> u16
@@ -39,7 +46,7 @@ fn number(form: &[u16], at: usize) -> u16
 // A number from low to high, as the byte at i.
 fn put(v: u16, low: u8, high: u8, refusal: u8, i: usize, out: &mut [u8]) -> Step
     requires { ⌜ i < length (now out) ⌝ }
-    ensures { λ r. ⌜ Writes value (λ bs. format.byte bs low high refusal i) i (v ∷ []) (now (out .entry)) r (now (out .exit)) × Took r v low high i ⌝ }
+    ensures { λ r. ⌜ Writes value (λ bs. format.byte bs low high refusal i) i (v ∷ []) (now (out .entry)) r (now (out .exit)) × Took r v high i ⌝ }
 {
     if v < low as u16 {
         return Step::Bad(refusal, i);
@@ -52,9 +59,37 @@ fn put(v: u16, low: u8, high: u8, refusal: u8, i: usize, out: &mut [u8]) -> Step
     Step::Good(b, i + 1)
 }
 
+// A number from low to high at i, as long as the version has it, big-endian: a count of predicates, or a predicate. Nothing is kept of it.
+fn put_number(
+    v: u16,
+    version: u8,
+    low: u16,
+    high: u16,
+    refusal: u8,
+    i: usize,
+    out: &mut [u8],
+) -> Step
+    requires { ⌜ (high ≤ mostPredicates version) × (i + 2 ≤ length (now out)) ⌝ }
+    ensures { λ r. ⌜ Writes none (λ bs. format.number (wide version) bs low high refusal i) i (numberBytes (wide version) v) (now (out .entry)) r (now (out .exit)) × Ranged r v low high × Ends r i 2 ⌝ }
+{
+    if v < low {
+        return Step::Bad(refusal, i);
+    }
+    if high < v {
+        return Step::Bad(refusal, i);
+    }
+    if is_wide(version) {
+        out[i] = (v / 256) as u8;
+        out[i + 1] = (v % 256) as u8;
+        return Step::Good(0, i + 2);
+    }
+    out[i] = v as u8;
+    Step::Good(0, i + 1)
+}
+
 // n variables; the value is their set.
 fn put_variables(form: &[u16], n: usize, at: usize, i: usize, out: &mut [u8]) -> Step
-    requires { ⌜ Fits at n i (now out) ⌝ }
+    requires { ⌜ Fits at n i n (now out) ⌝ }
     ensures { λ r. ⌜ Writes setOf (λ bs. many n (format.variable bs) i) i (numbersFrom (now (form .entry)) at n) (now (out .entry)) r (now (out .exit)) × Ends r i n ⌝ }
 {
     let mut set: u8 = 0;
@@ -76,13 +111,14 @@ fn put_variables(form: &[u16], n: usize, at: usize, i: usize, out: &mut [u8]) ->
 }
 
 // An atom; the value is the set of its variables. n is the count of predicates.
-fn put_atom(form: &[u16], n: usize, at: usize, i: usize, out: &mut [u8]) -> Step
-    requires { ⌜ Declared (now form) n ⌝ }
-    requires { ⌜ Fits at factWidth i (now out) ⌝ }
-    ensures { λ r. ⌜ Writes atomSet (λ bs. format.atom bs (aritiesIn (now (form .entry)) n) i) i (atomBytes (atomAt (now (form .entry)) (aritiesIn (now (form .entry)) n) at)) (now (out .entry)) r (now (out .exit)) × Ends r i factWidth ⌝ }
+fn put_atom(form: &[u16], version: u8, n: usize, at: usize, i: usize, out: &mut [u8]) -> Step
+    requires { ⌜ Declared (now form) version n ⌝ }
+    requires { ⌜ Fits at factWidth i atomRoom (now out) ⌝ }
+    ensures { λ r. ⌜ Writes atomSet (λ bs. format.atom bs (signatureIn (now (form .entry)) version n) i) i (atomBytes (wide version) (atomAt (now (form .entry)) (aritiesIn (now (form .entry)) n) at)) (now (out .entry)) r (now (out .exit)) × Ends r i atomRoom ⌝ }
 {
-    let head = put(number(form, at), 0, (n - 1) as u8, 7, i, out);
-    let Step::Good(p, j) = head else {
+    let p = number(form, at);
+    let head = put_number(p, version, 0, (n - 1) as u16, 7, i, out);
+    let Step::Good(_, j) = head else {
         return head;
     };
     let arity = number(form, arity_place(p as usize)) as usize;
@@ -92,21 +128,22 @@ fn put_atom(form: &[u16], n: usize, at: usize, i: usize, out: &mut [u8]) -> Step
 // count atoms; the value is the set of their variables.
 fn put_many_atoms(
     form: &[u16],
+    version: u8,
     n: usize,
     count: usize,
     group: usize,
     i: usize,
     out: &mut [u8],
 ) -> Step
-    requires { ⌜ Declared (now form) n ⌝ }
-    requires { ⌜ Fits (group + 1) (4 * factWidth) i (now out) × (count ≤ 4) ⌝ }
-    ensures { λ r. ⌜ Writes atomsSet (λ bs. many count (format.atom bs (aritiesIn (now (form .entry)) n)) i) i (collect atomBytes (spaced (atomAt (now (form .entry)) (aritiesIn (now (form .entry)) n)) factWidth count (group + 1))) (now (out .entry)) r (now (out .exit)) × Ends r i (4 * factWidth) ⌝ }
+    requires { ⌜ Declared (now form) version n ⌝ }
+    requires { ⌜ Fits (group + 1) (4 * factWidth) i (4 * atomRoom) (now out) × (count ≤ 4) ⌝ }
+    ensures { λ r. ⌜ Writes atomsSet (λ bs. many count (format.atom bs (signatureIn (now (form .entry)) version n)) i) i (collect (atomBytes (wide version)) (spaced (atomAt (now (form .entry)) (aritiesIn (now (form .entry)) n)) factWidth count (group + 1))) (now (out .entry)) r (now (out .exit)) × Ends r i (4 * atomRoom) ⌝ }
 {
     let mut set: u8 = 0;
     let mut j = i;
     let mut k = 0;
     while k < count {
-        match put_atom(form, n, atom_place(group, k), j, out) {
+        match put_atom(form, version, n, atom_place(group, k), j, out) {
             Step::Good(variables, next) => {
                 set = set | variables;
                 j = next;
@@ -121,21 +158,22 @@ fn put_many_atoms(
 }
 
 // A count of one to four, and so many atoms; the value is the set of their variables.
-fn put_atoms(form: &[u16], n: usize, group: usize, i: usize, out: &mut [u8]) -> Step
-    requires { ⌜ Declared (now form) n ⌝ }
-    requires { ⌜ Fits group groupWidth i (now out) ⌝ }
-    ensures { λ r. ⌜ Writes atomsSet (λ bs. format.atoms bs (aritiesIn (now (form .entry)) n) i) i (atomsBytes (groupAt (now (form .entry)) (aritiesIn (now (form .entry)) n) group)) (now (out .entry)) r (now (out .exit)) × Ends r i groupWidth ⌝ }
+fn put_atoms(form: &[u16], version: u8, n: usize, group: usize, i: usize, out: &mut [u8]) -> Step
+    requires { ⌜ Declared (now form) version n ⌝ }
+    requires { ⌜ Fits group groupWidth i groupRoom (now out) ⌝ }
+    ensures { λ r. ⌜ Writes atomsSet (λ bs. format.atoms bs (signatureIn (now (form .entry)) version n) i) i (atomsBytes (wide version) (groupAt (now (form .entry)) (aritiesIn (now (form .entry)) n) group)) (now (out .entry)) r (now (out .exit)) × Ends r i groupRoom ⌝ }
 {
     let first = put(number(form, group), 1, 4, 6, i, out);
     let Step::Good(count, j) = first else {
         return first;
     };
-    put_many_atoms(form, n, count as usize, group, j, out)
+    put_many_atoms(form, version, n, count as usize, group, j, out)
 }
 
 // count disjuncts; the value is the fault of the rule that has them, by the set of its body's variables.
 fn put_many_disjuncts(
     form: &[u16],
+    version: u8,
     n: usize,
     body: u8,
     count: usize,
@@ -143,15 +181,15 @@ fn put_many_disjuncts(
     i: usize,
     out: &mut [u8],
 ) -> Step
-    requires { ⌜ Declared (now form) n ⌝ }
-    requires { ⌜ Fits (rule + 22) (4 * groupWidth) i (now out) × (count ≤ 4) ⌝ }
-    ensures { λ r. ⌜ WritesHead (now (form .entry)) n body count rule i (now (out .entry)) r (now (out .exit)) × Ends r i (4 * groupWidth) ⌝ }
+    requires { ⌜ Declared (now form) version n ⌝ }
+    requires { ⌜ Fits (rule + 22) (4 * groupWidth) i (4 * groupRoom) (now out) × (count ≤ 4) ⌝ }
+    ensures { λ r. ⌜ WritesHead (now (form .entry)) version n body count rule i (now (out .entry)) r (now (out .exit)) × Ends r i (4 * groupRoom) ⌝ }
 {
     let mut heads = Disjuncts::none();
     let mut j = i;
     let mut k = 0;
     while k < count {
-        match put_atoms(form, n, group_place(rule, k + 1), j, out) {
+        match put_atoms(form, version, n, group_place(rule, k + 1), j, out) {
             Step::Good(set, next) => {
                 heads = heads.with(set, body);
                 j = next;
@@ -166,12 +204,12 @@ fn put_many_disjuncts(
 }
 
 // A rule, 8 and then 9 tested after its last byte.
-fn put_rule(form: &[u16], n: usize, rule: usize, i: usize, out: &mut [u8]) -> Step
-    requires { ⌜ Declared (now form) n ⌝ }
-    requires { ⌜ Fits rule ruleWidth i (now out) ⌝ }
-    ensures { λ r. ⌜ Writes none (λ bs. format.rule bs (aritiesIn (now (form .entry)) n) i) i (ruleBytes (ruleAt (now (form .entry)) (aritiesIn (now (form .entry)) n) rule)) (now (out .entry)) r (now (out .exit)) × Ends r i ruleWidth ⌝ }
+fn put_rule(form: &[u16], version: u8, n: usize, rule: usize, i: usize, out: &mut [u8]) -> Step
+    requires { ⌜ Declared (now form) version n ⌝ }
+    requires { ⌜ Fits rule ruleWidth i ruleRoom (now out) ⌝ }
+    ensures { λ r. ⌜ Writes none (λ bs. format.rule bs (signatureIn (now (form .entry)) version n) i) i (ruleBytes (wide version) (ruleAt (now (form .entry)) (aritiesIn (now (form .entry)) n) rule)) (now (out .entry)) r (now (out .exit)) × Ends r i ruleRoom ⌝ }
 {
-    let body = put_atoms(form, n, group_place(rule, 0), i, out);
+    let body = put_atoms(form, version, n, group_place(rule, 0), i, out);
     let Step::Good(set, j) = body else {
         return body;
     };
@@ -179,7 +217,7 @@ fn put_rule(form: &[u16], n: usize, rule: usize, i: usize, out: &mut [u8]) -> St
     let Step::Good(count, k) = first else {
         return first;
     };
-    let head = put_many_disjuncts(form, n, set, count as usize, rule, k, out);
+    let head = put_many_disjuncts(form, version, n, set, count as usize, rule, k, out);
     let Step::Good(refusal, end) = head else {
         return head;
     };
@@ -190,15 +228,22 @@ fn put_rule(form: &[u16], n: usize, rule: usize, i: usize, out: &mut [u8]) -> St
 }
 
 // count rules.
-fn put_many_rules(form: &[u16], n: usize, count: usize, i: usize, out: &mut [u8]) -> Step
-    requires { ⌜ Declared (now form) n ⌝ }
-    requires { ⌜ (i + rulesLength ≤ length (now out)) × (count ≤ ruleLimit) ⌝ }
-    ensures { λ r. ⌜ Writes none (λ bs. many count (format.rule bs (aritiesIn (now (form .entry)) n)) i) i (collect ruleBytes (spaced (ruleAt (now (form .entry)) (aritiesIn (now (form .entry)) n)) ruleWidth count 2)) (now (out .entry)) r (now (out .exit)) × Ends r i rulesLength ⌝ }
+fn put_many_rules(
+    form: &[u16],
+    version: u8,
+    n: usize,
+    count: usize,
+    i: usize,
+    out: &mut [u8],
+) -> Step
+    requires { ⌜ Declared (now form) version n ⌝ }
+    requires { ⌜ (i + rulesRoom ≤ length (now out)) × (count ≤ ruleLimit) ⌝ }
+    ensures { λ r. ⌜ Writes none (λ bs. many count (format.rule bs (signatureIn (now (form .entry)) version n)) i) i (collect (ruleBytes (wide version)) (spaced (ruleAt (now (form .entry)) (aritiesIn (now (form .entry)) n)) ruleWidth count 2)) (now (out .entry)) r (now (out .exit)) × Ends r i rulesRoom ⌝ }
 {
     let mut j = i;
     let mut k = 0;
     while k < count {
-        match put_rule(form, n, rule_place(k), j, out) {
+        match put_rule(form, version, n, rule_place(k), j, out) {
             Step::Good(_, next) => {
                 j = next;
                 k += 1;
@@ -233,41 +278,51 @@ fn put_arities(form: &[u16], n: usize, i: usize, out: &mut [u8]) -> Step
 }
 
 // A count of at most 64, and so many rules.
-fn put_rules(form: &[u16], n: usize, i: usize, out: &mut [u8]) -> Step
-    requires { ⌜ Declared (now form) n ⌝ }
-    requires { ⌜ i + suc rulesLength ≤ length (now out) ⌝ }
-    ensures { λ r. ⌜ Writes none (λ bs. parsedRules bs (aritiesIn (now (form .entry)) n) i) i (rulesBytes (rulesAt (now (form .entry)) (aritiesIn (now (form .entry)) n))) (now (out .entry)) r (now (out .exit)) × Ends r i (suc rulesLength) ⌝ }
+fn put_rules(form: &[u16], version: u8, n: usize, i: usize, out: &mut [u8]) -> Step
+    requires { ⌜ Declared (now form) version n ⌝ }
+    requires { ⌜ i + suc rulesRoom ≤ length (now out) ⌝ }
+    ensures { λ r. ⌜ Writes none (λ bs. parsedRules bs (signatureIn (now (form .entry)) version n) i) i (rulesBytes (wide version) (rulesAt (now (form .entry)) (aritiesIn (now (form .entry)) n))) (now (out .entry)) r (now (out .exit)) × Ends r i (suc rulesRoom) ⌝ }
 {
     let first = put(number(form, RULE_COUNT), 0, 64, 5, i, out);
     let Step::Good(count, j) = first else {
         return first;
     };
-    put_many_rules(form, n, count as usize, j, out)
+    put_many_rules(form, version, n, count as usize, j, out)
+}
+
+// What follows the version: the count of predicates, their arities, and the rules.
+fn put_declared(form: &[u16], version: u8, i: usize, out: &mut [u8]) -> Step
+    requires { ⌜ i + declaredRoom ≤ length (now out) ⌝ }
+    ensures { λ r. ⌜ Writes none (λ bs. afterVersion bs version i) i (declaredBytes (now (form .entry)) version) (now (out .entry)) r (now (out .exit)) × Ends r i declaredRoom ⌝ }
+{
+    let count = number(form, PREDICATE_COUNT);
+    let first = put_number(count, version, 1, most_predicates(version), 4, i, out);
+    let Step::Good(_, j) = first else {
+        return first;
+    };
+    let n = count as usize;
+    let listed = put_arities(form, n, j, out);
+    let Step::Good(_, k) = listed else {
+        return listed;
+    };
+    put_rules(form, version, n, k, out)
 }
 
 // What follows the length.
 fn put_content(form: &[u16], out: &mut [u8]) -> Step
-    requires { ⌜ length (now out) ≡ bytesRoom ⌝ }
+    requires { ⌜ length (now out) ≡ bytesLimit ⌝ }
     ensures { λ r. ⌜ Writes none parsedContent 4 (content (decoded (now (form .entry)))) (now (out .entry)) r (now (out .exit)) × Ends r 4 contentRoom ⌝ }
 {
-    let version = put(1, 1, 1, 3, 4, out);
-    let Step::Good(_, i) = version else {
-        return version;
-    };
-    let first = put(number(form, PREDICATE_COUNT), 1, 64, 4, i, out);
-    let Step::Good(n, j) = first else {
+    let first = put(number(form, VERSION), 1, LAST_VERSION, 3, 4, out);
+    let Step::Good(version, i) = first else {
         return first;
     };
-    let listed = put_arities(form, n as usize, j, out);
-    let Step::Good(_, k) = listed else {
-        return listed;
-    };
-    put_rules(form, n as usize, k, out)
+    put_declared(form, version, i, out)
 }
 
 // The length of what follows it, big-endian, as the first four bytes: it is below 65536.
 fn put_length(end: usize, out: &mut [u8])
-    requires { ⌜ (4 ≤ end) × (end ≤ bytesRoom) × (4 ≤ length (now out)) ⌝ }
+    requires { ⌜ (4 ≤ end) × (end ≤ bytesLimit) × (4 ≤ length (now out)) ⌝ }
     ensures { λ _. ⌜ now (out .exit) ≡ lengthened (now (out .entry)) (end - 4) ⌝ }
 {
     out[0] = 0;

@@ -40,7 +40,7 @@ many-atoms-requires c κs =
 
 same-length : tie.Need-same-length
 same-length c =
-    headed-length (c .before .before .before .before .before .before .before .before .before .before .before .args .row .now) (c .before .before .before .before .before .count .given .0 .0) (c .before .before .many-atoms .last .1 .1 .1 .1 .0) (c .before .before .many-atoms .kept .1 .1 .1 .1 .0)
+    headed-length (c .before .before .before .before .before .before .before .before .before .before .before .args .row .now) (c .before .before .before .before .before .count .given .0 .0) (c .before .before .many-atoms .last .1 .1 .1 .1 .1 .0) (c .before .before .many-atoms .kept .1 .1 .1 .1 .1 .0)
 
 returns-2 : tie.Need-returns-2
 returns-2 c = atoms-filled _ _ _ _ _ _ _ _ (read (c .before .before .before .before .before)) (c .before .before .before .before .before .before .before .before .before .before .before .pre .1) (c .before .before .many-atoms .ensures)

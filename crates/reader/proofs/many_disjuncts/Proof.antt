@@ -3,7 +3,7 @@ use mathlib.Core.Path.{sym, _∙_}
 use Prim.Native.Nat.{_-_, _*_}
 use native.Mathlib.Omega.{arith}
 use borrow.Author.Needs.{needs}
-use Rattle.model.specs.Format.{atoms}
+use Rattle.model.specs.Format.{signed, atoms}
 use Rattle.model.specs.Form.{groupWidth, group}
 use Rattle.parsing.specs.Step.{atomsSet}
 use Rattle.parsing.proofs.Many.{Rows, rows-begun, rows-lent, rows-length, rows-more, rows-failed, rows-same, rows-finished}
@@ -12,11 +12,11 @@ use Rattle.reader.proofs.many_disjuncts.Statement.{statement}
 use Rattle.reader.proofs.many_disjuncts.Tie as tie
 
 abbrev Inv-loop : tie.InvT-loop
-Inv-loop bytes arities body n i rows₀ heads₀ at₀ from₀ k₀ rows heads at from k =
-    Rows (atoms bytes arities) (Keeps body) group groupWidth (4 * groupWidth) n i rows₀ k at from heads rows
+Inv-loop bytes version arities body n i rows₀ heads₀ at₀ from₀ k₀ rows heads at from k =
+    Rows (atoms bytes (signed version arities)) (Keeps body) group groupWidth (4 * groupWidth) n i rows₀ k at from heads rows
 
 abbrev μ-loop : tie.MeasureT-loop
-μ-loop bytes arities body n i rows₀ heads₀ at₀ from₀ k₀ rows heads at from k = n - k
+μ-loop bytes version arities body n i rows₀ heads₀ at₀ from₀ k₀ rows heads at from k = n - k
 
 loop-holds : tie.Need-loop-holds Inv-loop μ-loop
 loop-holds c = rows-begun (c .before .before .before .before .pre .1 .1) (keeps-none _ _ (c .none .ensures))
@@ -27,11 +27,11 @@ atoms-requires c κs = let a = c .before .before .before .before .before .before
 loop-again : tie.Need-loop-again Inv-loop μ-loop
 loop-again c =
     let f = c .before .before .before .before .before .before .atoms in
-    rows-more (c .before .before .before .before .before .before .before .before .before .loop .inv) (c .before .before .before .before .before .before .before .before .before .before .before .before .before .before .pre .1 .1) _ (f .kept .1 .1 .1 .0) atomsSet _ _ _ _ (omega arith) (omega arith) (c .before .before .set .given .1) (f .ensures)
+    rows-more (c .before .before .before .before .before .before .before .before .before .loop .inv) (c .before .before .before .before .before .before .before .before .before .before .before .before .before .before .pre .1 .1) _ (f .kept .1 .1 .1 .1 .0) atomsSet _ _ _ _ (omega arith) (omega arith) (c .before .before .set .given .1) (f .ensures)
     (keeps-more _ _ _ _ (c .before .before .before .before .before .before .before .before .before .before .before .before .before .before .fits .body .fits) (c .with .ensures))
 
 same-length : tie.Need-same-length Inv-loop μ-loop
-same-length c = rows-length (c .before .before .before .before .before .before .before .before .loop .inv) (c .before .before .before .before .before .before .before .before .before .before .before .before .before .pre .1 .1) (c .before .before .before .before .before .atoms .last .1 .1 .1 .0) (c .before .before .before .before .before .atoms .kept .1 .1 .1 .0)
+same-length c = rows-length (c .before .before .before .before .before .before .before .before .loop .inv) (c .before .before .before .before .before .before .before .before .before .before .before .before .before .pre .1 .1) (c .before .before .before .before .before .atoms .last .1 .1 .1 .1 .0) (c .before .before .before .before .before .atoms .kept .1 .1 .1 .1 .0)
 
 returns : tie.Need-returns Inv-loop μ-loop
 returns c b e = rows-failed (c .before .before .before .before .before .before .before .before .loop .inv) (c .before .before .before .before .before .before .before .before .before .before .before .before .before .pre .1 .1) atomsSet _ _ _ _ _ _ _ (omega arith) (c .before .refusal .given .1) (c .before .before .before .before .before .atoms .ensures)

@@ -4,7 +4,7 @@ use mathlib.Core.List.{List}
 use Prim.Native.Nat.{ℕ}
 use native.Mathlib.Omega.{arith}
 use lib.ListN.{length}
-use Rattle.model.specs.Format.{good, many, byte, atoms, rule}
+use Rattle.model.specs.Format.{good, many, byte, Signature, signed, atoms, rule}
 use Rattle.model.specs.Lists.{padded, collect}
 use Rattle.model.specs.Form.{group, ruleRow}
 use Rattle.parsing.specs.Step.{value, zeros, atomsSet, Filled}
@@ -27,21 +27,21 @@ row-zeros : (c : tie.After-atoms) → row c ≡ zeros 106
 row-zeros c = c .before .before .before .before .before .pre .1
 
 abbrev left : tie.After-atoms → List ℕ
-left c = c .atoms .last .1 .1 .1 .0
+left c = c .atoms .last .1 .1 .1 .1 .0
 
 left-length : (c : tie.After-atoms) → length (left c) ≡ 21
-left-length c = body-length (row c) (row-zeros c) (left c) (c .atoms .kept .1 .1 .1 .0)
+left-length c = body-length (row c) (row-zeros c) (left c) (c .atoms .kept .1 .1 .1 .1 .0)
 
 abbrev bytes : tie.After-atoms → List ℕ
 bytes c = c .before .before .before .before .before .args .bytes .now
 
-abbrev arities : tie.After-atoms → List ℕ
-arities c = c .before .before .before .before .before .args .arities .now
+abbrev signature : tie.After-atoms → Signature
+signature c = signed (c .before .before .before .before .before .args .version) (c .before .before .before .before .before .args .arities .now)
 
 abbrev start : tie.After-atoms → ℕ
 start c = c .before .before .before .before .before .args .i
 
-body : (c : tie.After-body) → Parses atomsSet (atoms (bytes (c .before .before .before .before)) (arities (c .before .before .before .before)) (start (c .before .before .before .before))) (c .body .given .0 .0) (c .body .given .0 .1 .0)
+body : (c : tie.After-body) → Parses atomsSet (atoms (bytes (c .before .before .before .before)) (signature (c .before .before .before .before)) (start (c .before .before .before .before))) (c .body .given .0 .0) (c .body .given .0 .1 .0)
 body c = step-good atomsSet _ _ _ (sym (c .body .given .1) ∙ c .before .before .before .before .atoms .ensures .answer)
 
 count : (c : tie.After-count) → byte (bytes (c .before .before .before .before .before .before .before .before)) 1 4 6 (c .before .before .before .before .body .given .0 .1 .0) ≡ good (c .count .given .0 .0) (c .count .given .0 .1 .0)
@@ -54,7 +54,7 @@ counted-wide : (c : tie.After-count) → length (counted (row (c .before .before
 counted-wide c = counted-length (row (c .before .before .before .before .before .before .before .before)) (row-zeros (c .before .before .before .before .before .before .before .before)) (left (c .before .before .before .before .before .before .before .before)) _ (left-length (c .before .before .before .before .before .before .before .before))
 
 heads : (c : tie.After-many-disjuncts)
-    → Filled (λ ds. fault (of (body (c .before .before .before .before .before .before .before) .result) ds)) (λ ds. padded 84 (collect group ds)) (many (c .before .before .before .count .given .0 .0) (atoms (bytes (c .before .before .before .before .before .before .before .before .before .before .before)) (arities (c .before .before .before .before .before .before .before .before .before .before .before))) (c .before .before .before .count .given .0 .1 .0)) (c .many-disjuncts .result) (c .many-disjuncts .last .1 .1 .1 .1 .1 .0)
+    → Filled (λ ds. fault (of (body (c .before .before .before .before .before .before .before) .result) ds)) (λ ds. padded 84 (collect group ds)) (many (c .before .before .before .count .given .0 .0) (atoms (bytes (c .before .before .before .before .before .before .before .before .before .before .before)) (signature (c .before .before .before .before .before .before .before .before .before .before .before))) (c .before .before .before .count .given .0 .1 .0)) (c .many-disjuncts .result) (c .many-disjuncts .last .1 .1 .1 .1 .1 .1 .0)
 heads c = c .many-disjuncts .ensures (body (c .before .before .before .before .before .before .before) .result) (sym (body (c .before .before .before .before .before .before .before) .kept))
 
 part-atoms-end : tie.Need-part-atoms-end
@@ -88,17 +88,17 @@ many-disjuncts-requires c κs =
 -- the whole row, and the head
 
 whole-length : (c : tie.After-many-disjuncts)
-    → length (headed (row (c .before .before .before .before .before .before .before .before .before .before .before)) (left (c .before .before .before .before .before .before .before .before .before .before .before)) (c .before .before .before .count .given .0 .0) (c .many-disjuncts .last .1 .1 .1 .1 .1 .0)) ≡ length (row (c .before .before .before .before .before .before .before .before .before .before .before))
+    → length (headed (row (c .before .before .before .before .before .before .before .before .before .before .before)) (left (c .before .before .before .before .before .before .before .before .before .before .before)) (c .before .before .before .count .given .0 .0) (c .many-disjuncts .last .1 .1 .1 .1 .1 .1 .0)) ≡ length (row (c .before .before .before .before .before .before .before .before .before .before .before))
 whole-length c =
-    headed-length (row (c .before .before .before .before .before .before .before .before .before .before .before)) (row-zeros (c .before .before .before .before .before .before .before .before .before .before .before)) (left (c .before .before .before .before .before .before .before .before .before .before .before)) _ (left-length (c .before .before .before .before .before .before .before .before .before .before .before)) (c .many-disjuncts .last .1 .1 .1 .1 .1 .0) (c .many-disjuncts .kept .1 .1 .1 .1 .1 .0)
+    headed-length (row (c .before .before .before .before .before .before .before .before .before .before .before)) (row-zeros (c .before .before .before .before .before .before .before .before .before .before .before)) (left (c .before .before .before .before .before .before .before .before .before .before .before)) _ (left-length (c .before .before .before .before .before .before .before .before .before .before .before)) (c .many-disjuncts .last .1 .1 .1 .1 .1 .1 .0) (c .many-disjuncts .kept .1 .1 .1 .1 .1 .1 .0)
     ∙ sym (zeros-length 106 _ (row-zeros (c .before .before .before .before .before .before .before .before .before .before .before)))
 
 head : (c : tie.After-head)
-    → Parses (λ ds. fault (of (body (c .before .before .before .before .before .before .before .before .before .before .before) .result) ds)) (many (c .before .before .before .before .before .before .before .count .given .0 .0) (atoms (bytes (c .before .before .before .before .before .before .before .before .before .before .before .before .before .before .before)) (arities (c .before .before .before .before .before .before .before .before .before .before .before .before .before .before .before))) (c .before .before .before .before .before .before .before .count .given .0 .1 .0)) (c .head .given .0 .0) (c .head .given .0 .1 .0)
+    → Parses (λ ds. fault (of (body (c .before .before .before .before .before .before .before .before .before .before .before) .result) ds)) (many (c .before .before .before .before .before .before .before .count .given .0 .0) (atoms (bytes (c .before .before .before .before .before .before .before .before .before .before .before .before .before .before .before)) (signature (c .before .before .before .before .before .before .before .before .before .before .before .before .before .before .before))) (c .before .before .before .before .before .before .before .count .given .0 .1 .0)) (c .head .given .0 .0) (c .head .given .0 .1 .0)
 head c = step-good _ _ _ _ (sym (c .head .given .1) ∙ heads (c .before .before .before .before) .answer)
 
 stored : (c : tie.After-head)
-    → headed (row (c .before .before .before .before .before .before .before .before .before .before .before .before .before .before .before)) (left (c .before .before .before .before .before .before .before .before .before .before .before .before .before .before .before)) (c .before .before .before .before .before .before .before .count .given .0 .0) (c .before .before .before .before .many-disjuncts .last .1 .1 .1 .1 .1 .0) ≡ ruleRow (of (body (c .before .before .before .before .before .before .before .before .before .before .before) .result) (head c .result))
+    → headed (row (c .before .before .before .before .before .before .before .before .before .before .before .before .before .before .before)) (left (c .before .before .before .before .before .before .before .before .before .before .before .before .before .before .before)) (c .before .before .before .before .before .before .before .count .given .0 .0) (c .before .before .before .before .many-disjuncts .last .1 .1 .1 .1 .1 .1 .0) ≡ ruleRow (of (body (c .before .before .before .before .before .before .before .before .before .before .before) .result) (head c .result))
 stored c =
     headed-rule (row (c .before .before .before .before .before .before .before .before .before .before .before .before .before .before .before)) (row-zeros (c .before .before .before .before .before .before .before .before .before .before .before .before .before .before .before)) (left (c .before .before .before .before .before .before .before .before .before .before .before .before .before .before .before)) _ (left-length (c .before .before .before .before .before .before .before .before .before .before .before .before .before .before .before)) (body (c .before .before .before .before .before .before .before .before .before .before .before) .result) (head c .result) _
     (c .before .before .before .before .before .before .before .before .before .before .before .before .before .before .before .atoms .ensures .stored _ _ (body (c .before .before .before .before .before .before .before .before .before .before .before) .parse))

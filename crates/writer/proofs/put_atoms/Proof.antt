@@ -6,7 +6,7 @@ use Rattle.writer.proofs.put_atoms.Statement.{statement}
 use Rattle.writer.proofs.put_atoms.Tie as tie
 
 returns : tie.Need-returns
-returns c = (atoms-refused _ _ _ _ _ _ _ _ (c .before .before .before .before .before .before .number .ensures) (c .before .before .before .before .put .ensures .0) _ _ _ (c .enum-told .given .1), ends-refused _ _ _ _ _ (c .enum-told .given .1))
+returns c = (atoms-refused _ _ _ _ _ _ _ _ _ (c .before .before .before .before .before .before .number .ensures) (c .before .before .before .before .put .ensures .0) _ _ _ (c .enum-told .given .1), ends-refused _ _ _ _ _ (c .enum-told .given .1))
 
 put-many-atoms-requires : tie.Need-put-many-atoms-requires
 put-many-atoms-requires c κs =
@@ -25,7 +25,7 @@ returns-2 c =
     let e = c .before .before .before .before .before .first .given .1 in
     let t = p .ensures .1 .next _ _ e in
     let v = c .before .before .put-many-atoms .ensures in
-    (atoms-written _ _ _ _ _ _ _ _ (c .before .before .before .before .before .before .before .before .before .before .before .number .ensures) (p .ensures .0) _ _ _ _ e (p .ensures .1) (v .0), ends-within _ _ _ _ _ (v .1) (omega arith))
+    (atoms-written _ _ _ _ _ _ _ _ _ (c .before .before .before .before .before .before .before .before .before .before .before .number .ensures) (p .ensures .0) _ _ _ _ e (p .ensures .1) (v .0), ends-within _ _ _ _ _ (v .1) (omega arith))
 
 pub put-atoms-spec : {M : Type 1} → statement M
 put-atoms-spec =

@@ -2,11 +2,12 @@
 use mathlib.Core.Path.{sym, _∙_}
 use Prim.Native.Nat.{_-_, _+_}
 use native.Mathlib.Omega.{arith}
-use Rattle.model.specs.Format.{atoms, atomsBytes}
+use Rattle.model.specs.Rules.{wide}
+use Rattle.model.specs.Format.{signed, atoms, atomsBytes}
 use Rattle.model.specs.Form.{groupWidth, groupAt}
 use Rattle.parsing.specs.Step.{atomsSet}
 use Rattle.parsing.proofs.Heads.{Keeps, keeps-none, keeps-more, fault-is}
-use Rattle.writer.specs.Writes.{aritiesIn}
+use Rattle.writer.specs.Writes.{aritiesIn, groupRoom}
 use Rattle.writer.proofs.Writing.{ends-bad, ends-good}
 use Rattle.writer.proofs.Turns.{Turns, turns-begun, turns-more, turns-refused, turns-ended}
 use borrow.Author.Needs.{needs}
@@ -14,11 +15,11 @@ use Rattle.writer.proofs.put_many_disjuncts.Statement.{statement}
 use Rattle.writer.proofs.put_many_disjuncts.Tie as tie
 
 abbrev Inv-loop : tie.InvT-loop
-Inv-loop form n body count rule i out₀ heads₀ j₀ k₀ out heads j k =
-    Turns (λ bs. atoms bs (aritiesIn form n)) (Keeps body) (groupAt form (aritiesIn form n)) atomsBytes groupWidth (rule + 22) count i out₀ k j heads out
+Inv-loop form version n body count rule i out₀ heads₀ j₀ k₀ out heads j k =
+    Turns (λ bs. atoms bs (signed version (aritiesIn form n))) (Keeps body) (groupAt form (aritiesIn form n)) (atomsBytes (wide version)) groupWidth groupRoom (rule + 22) count i out₀ k j heads out
 
 abbrev μ-loop : tie.MeasureT-loop
-μ-loop form n body count rule i out₀ heads₀ j₀ k₀ out heads j k = count - k
+μ-loop form version n body count rule i out₀ heads₀ j₀ k₀ out heads j k = count - k
 
 put-atoms-requires : tie.Need-put-atoms-requires Inv-loop μ-loop
 put-atoms-requires c κs =
@@ -31,7 +32,7 @@ loop-again : tie.Need-loop-again Inv-loop μ-loop
 loop-again c =
     let p = c .before .before .before .before .before .before .put-atoms in
     let e = c .before .before .before .before .before .before .before .before .group-place .ensures in
-    turns-more (c .before .before .before .before .before .before .before .before .before .before .loop .inv) atomsSet _ _ _ (omega arith) (omega arith) (p .ensures .0) _ _ _ (c .before .before .set .given .1) (p .ensures .1) (p .kept .1 .1 .1 .1 .0)
+    turns-more (c .before .before .before .before .before .before .before .before .before .before .loop .inv) atomsSet _ _ _ (omega arith) (omega arith) (p .ensures .0) _ _ _ (c .before .before .set .given .1) (p .ensures .1) (p .kept .1 .1 .1 .1 .1 .0)
     (keeps-more _ _ _ _ (c .before .before .before .before .before .before .before .before .before .before .before .before .before .before .fits .body .fits) (c .with .ensures))
 
 returns : tie.Need-returns Inv-loop μ-loop

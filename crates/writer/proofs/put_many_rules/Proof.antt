@@ -2,11 +2,12 @@
 use mathlib.Core.Path.{refl}
 use Prim.Native.Nat.{_-_}
 use native.Mathlib.Omega.{arith}
-use Rattle.model.specs.Format.{rule, ruleBytes}
+use Rattle.model.specs.Rules.{wide}
+use Rattle.model.specs.Format.{signed, rule, ruleBytes}
 use Rattle.model.specs.Form.{ruleWidth, ruleAt}
 use Rattle.parsing.specs.Step.{none}
 use Rattle.parsing.proofs.Many.{Anything}
-use Rattle.writer.specs.Writes.{aritiesIn}
+use Rattle.writer.specs.Writes.{aritiesIn, ruleRoom}
 use Rattle.writer.proofs.Writing.{ends-bad, ends-good}
 use Rattle.writer.proofs.Turns.{Turns, turns-begun, turns-more, turns-refused, turns-ended}
 use borrow.Author.Needs.{needs}
@@ -14,11 +15,11 @@ use Rattle.writer.proofs.put_many_rules.Statement.{statement}
 use Rattle.writer.proofs.put_many_rules.Tie as tie
 
 abbrev Inv-loop : tie.InvT-loop
-Inv-loop form n count i out₀ j₀ k₀ out j k =
-    Turns (λ bs. rule bs (aritiesIn form n)) Anything (ruleAt form (aritiesIn form n)) ruleBytes ruleWidth 2 count i out₀ k j 0 out
+Inv-loop form version n count i out₀ j₀ k₀ out j k =
+    Turns (λ bs. rule bs (signed version (aritiesIn form n))) Anything (ruleAt form (aritiesIn form n)) (ruleBytes (wide version)) ruleWidth ruleRoom 2 count i out₀ k j 0 out
 
 abbrev μ-loop : tie.MeasureT-loop
-μ-loop form n count i out₀ j₀ k₀ out j k = count - k
+μ-loop form version n count i out₀ j₀ k₀ out j k = count - k
 
 put-rule-requires : tie.Need-put-rule-requires Inv-loop μ-loop
 put-rule-requires c κs =
@@ -31,7 +32,7 @@ loop-again : tie.Need-loop-again Inv-loop μ-loop
 loop-again c =
     let p = c .before .before .before .before .before .put-rule in
     let e = c .before .before .before .before .before .before .before .rule-place .ensures in
-    turns-more (c .before .before .before .before .before .before .before .before .before .loop .inv) none _ _ _ (omega arith) (omega arith) (p .ensures .0) _ _ 0 (c .before .next .given .1) (p .ensures .1) (p .kept .1 .1 .1 .1 .0)
+    turns-more (c .before .before .before .before .before .before .before .before .before .loop .inv) none _ _ _ (omega arith) (omega arith) (p .ensures .0) _ _ 0 (c .before .next .given .1) (p .ensures .1) (p .kept .1 .1 .1 .1 .1 .0)
     (λ r f rs m. tt)
 
 returns : tie.Need-returns Inv-loop μ-loop

@@ -7,7 +7,7 @@ use Rattle.writer.proofs.put_rules.Statement.{statement}
 use Rattle.writer.proofs.put_rules.Tie as tie
 
 returns : tie.Need-returns
-returns c = (rules-refused _ _ _ _ _ _ _ (c .before .before .before .before .before .before .number .ensures) (c .before .before .before .before .put .ensures .0) _ _ _ (c .enum-told .given .1), ends-refused _ _ _ _ _ (c .enum-told .given .1))
+returns c = (rules-refused _ _ _ _ _ _ _ _ (c .before .before .before .before .before .before .number .ensures) (c .before .before .before .before .put .ensures .0) _ _ _ (c .enum-told .given .1), ends-refused _ _ _ _ _ (c .enum-told .given .1))
 
 put-many-rules-requires : tie.Need-put-many-rules-requires
 put-many-rules-requires c κs =
@@ -26,7 +26,7 @@ returns-2 c =
     let e = c .before .before .before .before .before .first .given .1 in
     let t = p .ensures .1 .next _ _ e in
     let v = c .before .before .put-many-rules .ensures in
-    (rules-written _ _ _ _ _ _ _ (c .before .before .before .before .before .before .before .before .before .before .before .number .ensures) (p .ensures .0) _ _ _ _ e (p .ensures .1) (v .0), ends-within _ _ _ _ _ (v .1) (omega arith))
+    (rules-written _ _ _ _ _ _ _ _ (c .before .before .before .before .before .before .before .before .before .before .before .number .ensures) (p .ensures .0) _ _ _ _ e (p .ensures .1) (v .0), ends-within _ _ _ _ _ (v .1) (omega arith))
 
 pub put-rules-spec : {M : Type 1} → statement M
 put-rules-spec =

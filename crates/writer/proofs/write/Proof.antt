@@ -39,7 +39,7 @@ parsed c = step-good none _ _ _ (sym (c .end .given .1) ∙ ran (c .before .befo
 ended : (c : tie.After-end) → (ruleSet (bytes (c .before .before .before)) ≡ good (parsed c .result) (c .end .given .0 .1 .0)) × (c .end .given .0 .1 .0 ≡ length (bytes (c .before .before .before)))
 ended c = content-end (form (c .before .before .before)) (parsed c .result) _ (parsed c .parse)
 
-bounds : (c : tie.After-end) → (4 ≤ c .end .given .0 .1 .0) × (c .end .given .0 .1 .0 ≤ 6855)
+bounds : (c : tie.After-end) → (4 ≤ c .end .given .0 .1 .0) × (c .end .given .0 .1 .0 ≤ 9096)
 bounds c =
     let e = ended c .1 in
     let l = bytesOf-length (decoded (form (c .before .before .before))) in
@@ -49,7 +49,7 @@ bounds c =
 stored : (c : tie.After-end) → Agree (bytes (c .before .before .before)) (c .end .given .0 .1 .0) (local (c .before .before .before))
 stored c = ran (c .before .before .before) .stored (parsed c .result) _ (parsed c .parse)
 
-local-length : (c : tie.After-put-content) → length (local c) ≡ 6855
+local-length : (c : tie.After-put-content) → length (local c) ≡ 9096
 local-length c = c .put-content .kept .1 .0
 
 -- past the length
@@ -63,7 +63,7 @@ module _ (c : tie.After-put-length) where
   whole-is : whole ≡ lengthened (local (c .before .before .before .before .before .before .before)) (end - 4)
   whole-is = c .put-length .ensures
 
-  wide : length whole ≡ 6855
+  wide : length whole ≡ 9096
   wide = c .put-length .kept .1 .0 ∙ local-length (c .before .before .before .before .before .before .before)
 
   front : length (take end whole) ≡ end
