@@ -4,7 +4,7 @@ use test_support::column::four;
 use test_support::column::two;
 
 // One byte more than the longest book has.
-pub const INPUT_LIMIT: usize = 6856;
+pub const INPUT_LIMIT: usize = 9097;
 
 // The largest number that a column of a case has: so many numbers or bytes are lent at the most.
 pub const LENT_LIMIT: usize = 9999;

@@ -1,8 +1,9 @@
-// Tries `read` and `write` on books: a line for each difference from what document 01 asks, one for each group of cases, then
+// Tries `read` and `write` on books: a line for each difference from what documents 01 and 02 ask, one for each group of cases, then
 // the count.
 //
-// A group is a file with a case on each line, as `reading` and `writing` say. What `misstated` says is wrong, and so is the first form, and
-// each of them must differ.
+// A group is a file with a case on each line, as `reading` and `writing` say. What `misstated` says is wrong, and so are the first two
+// forms, and each of them must differ. The cases of document 02's vectors are in `requests` and `generated`: all but those whose book has
+// a 3 at place 4, which is no version before C-16.
 mod answer;
 mod forms;
 mod reading;
@@ -46,11 +47,14 @@ fn try_group(name: &[u8]) -> Tally {
     tally
 }
 
-// The forms of River and Lake, number by number.
+// The forms of River and Lake in both versions, and one with a predicate that takes two bytes, number by number.
 fn try_forms() -> Tally {
-    let river = forms::differs(b"river.book", b"river.form");
-    let lake = forms::differs(b"lake.book", b"lake.form");
-    let tally = Tally::new().with(river).with(lake);
+    let tally = Tally::new()
+        .with(forms::differs(b"river.book", b"river.form"))
+        .with(forms::differs(b"lake.book", b"lake.form"))
+        .with(forms::differs(b"river-2.book", b"river-2.form"))
+        .with(forms::differs(b"lake-2.book", b"lake-2.form"))
+        .with(forms::differs(b"c15-predicate-256.book", b"c15-predicate-256.form"));
     say::count(b"forms", tally.cases, tally.differences);
     tally
 }
@@ -58,13 +62,17 @@ fn try_forms() -> Tally {
 fn main() {
     try_group(b"misstated");
     forms::differs(b"river.book", b"lake.form");
+    forms::differs(b"river.book", b"river-2.form");
     let tally = try_group(b"refusals")
         .plus(try_group(b"damaged"))
         .plus(try_group(b"random"))
         .plus(try_group(b"papers"))
         .plus(try_group(b"longest"))
         .plus(try_group(b"lengths"))
+        .plus(try_group(b"requests"))
+        .plus(try_group(b"generated"))
         .plus(try_forms())
-        .plus(try_group(b"writing"));
+        .plus(try_group(b"writing"))
+        .plus(try_group(b"versions"));
     say::count(b"all", tally.cases, tally.differences);
 }

@@ -1,6 +1,8 @@
 // Tries `report`'s `print` on books: a line for each difference from what is expected, one for each group of cases, then the count.
 //
 // A group is a file with a case on each line, as `printing` says. What `misstated` says is wrong, and each of its cases must differ.
+// `version-2` has the cases of document 02's vectors whose book has a 2 at place 4, and books of the other groups in that version. Those whose
+// book has a 3 there are none before C-16.
 mod printing;
 mod tables;
 
@@ -40,6 +42,7 @@ fn main() {
         .plus(try_group(b"limits"))
         .plus(try_group(b"order"))
         .plus(try_group(b"depths"))
+        .plus(try_group(b"version-2"))
         .plus(try_group(b"random"))
         .plus(try_group(b"damaged"))
         .plus(try_group(b"longer"))

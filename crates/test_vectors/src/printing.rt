@@ -30,7 +30,7 @@ const TABLES_COLUMN: usize = 7;
 const BOOK_COLUMN: usize = 17;
 
 // One byte more than the longest book has.
-const INPUT_LIMIT: usize = 6856;
+const INPUT_LIMIT: usize = 9097;
 
 // The length of a list of which `letter` says that it is one short.
 fn room(lists: u8, letter: u8, asked: usize) -> usize
