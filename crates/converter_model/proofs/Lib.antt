@@ -1,0 +1,5 @@
+pub mod Converting
+pub mod Same
+pub mod Back
+pub mod Faults
+pub mod Cases
