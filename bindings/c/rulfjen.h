@@ -20,9 +20,9 @@ extern "C" {
 /* How long the lists must be; what lies beyond is left alone. */
 #define RULFJEN_TERMS 5130  /* 513 records of ten: Skolem function, arity, eight term numbers */
 #define RULFJEN_FACTS 10240 /* 2,048 records of five: predicate, four term numbers */
-#define RULFJEN_FORM 6850   /* docs/DECISIONS.md, "The form" */
-#define RULFJEN_BOOK 6855   /* the longest rule set in bytes */
-#define RULFJEN_TEXT 72767  /* the longest text of an answer */
+#define RULFJEN_FORM 7812   /* docs/DECISIONS.md, "The form" */
+#define RULFJEN_BOOK 9096   /* the longest rule set in bytes, of any version */
+#define RULFJEN_TEXT 76863  /* the longest text of an answer */
 
 /* How often one way down a term may meet one Skolem function: 1, 2 or 3; once more, and the term is cyclic. Each function
  * that takes a depth refuses any other number with 18, before it looks at the rule set. */
@@ -43,10 +43,10 @@ size_t rulfjen_check(const uint8_t *book, size_t book_length, size_t depth, uint
 /* The others return 0, or the number of a refusal, after which the list is as it was. `value` has one place: the count
  * that was read or written, or the refusal's place. */
 
-/* Reads a rule set into a form. */
+/* Reads a rule set of any version into a form. */
 size_t rulfjen_read(const uint8_t *book, size_t book_length, uint16_t *form, size_t form_length, size_t *value);
 
-/* Writes the bytes of a form's rule set. */
+/* Writes the bytes of a form's rule set, in the version that the form states (its place 7,810). */
 size_t rulfjen_write(const uint16_t *form, size_t form_length, uint8_t *book, size_t book_length, size_t *value);
 
 /* Writes the text of the check's answer at a depth, without a 0 behind it. A text list shorter than RULFJEN_TEXT is

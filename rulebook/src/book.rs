@@ -9,6 +9,17 @@ const GROUP: usize = 21;
 const ATOM: usize = 5;
 const RULES: usize = 64;
 const ARITIES: usize = 2 + RULES * RULE;
+const VERSION: usize = ARITIES + 1_024;
+
+/// How a book's bytes number its predicates: in version 1 a byte each, in version 2 two.
+#[derive(Clone, Copy, PartialEq, Eq, Debug)]
+pub enum Version {
+    One = 1,
+    Two = 2,
+}
+
+/// Where the count of predicates stands in a book's bytes.
+const COUNT: usize = 5;
 
 #[derive(Clone, PartialEq, Eq, Debug)]
 pub struct Atom {
@@ -114,8 +125,8 @@ fn group(places: &[u16], arities: &[usize]) -> Vec<Atom> {
 }
 
 impl Book {
-    /// The form that says this book. What a form has no place for is left out, and its count says so.
-    pub fn form(&self) -> Box<[u16; FORM]> {
+    /// The form that says this book in a version. What a form has no place for is left out, and its count says so.
+    pub fn form(&self, version: Version) -> Box<[u16; FORM]> {
         let mut form = Box::new([0; FORM]);
         form[0] = narrow(self.arities.len());
         form[1] = narrow(self.rules.len());
@@ -126,14 +137,15 @@ impl Book {
                 put_group(places, atoms);
             }
         }
-        for (place, &arity) in form[ARITIES..].iter_mut().zip(&self.arities) {
+        for (place, &arity) in form[ARITIES..VERSION].iter_mut().zip(&self.arities) {
             *place = narrow(arity);
         }
+        form[VERSION] = version as u16;
         form
     }
 
     fn of_form(form: &[u16; FORM]) -> Book {
-        let arities: Vec<usize> = form[ARITIES..].iter().take(form[0] as usize).map(|&a| a as usize).collect();
+        let arities: Vec<usize> = form[ARITIES..VERSION].iter().take(form[0] as usize).map(|&a| a as usize).collect();
         let rules = form[2..ARITIES].chunks_exact(RULE).take(form[1] as usize);
         let rules = rules
             .map(|places| {
@@ -145,18 +157,26 @@ impl Book {
         Book { arities, rules }
     }
 
-    /// A book from its bytes, by the library's reader.
+    /// A book from its bytes, of either version, by the library's reader.
     pub fn read(bytes: &[u8]) -> Result<Book, Refusal> {
         let mut form = Box::new([0; FORM]);
         rulfjen::read(bytes, &mut form)?;
         Ok(Book::of_form(&form))
     }
 
-    /// The book's bytes, by the library's writer, or its refusal.
-    pub fn write(&self) -> Result<Vec<u8>, Refusal> {
+    /// The book's bytes in a version, by the library's writer, or its refusal.
+    pub fn write_as(&self, version: Version) -> Result<Vec<u8>, Refusal> {
         let mut bytes = [0; BOOK];
-        let length = rulfjen::write(&self.form(), &mut bytes)?;
+        let length = rulfjen::write(&self.form(version), &mut bytes)?;
         Ok(bytes[..length].to_vec())
+    }
+
+    /// The book's bytes in version 1, or in version 2 where the library refuses version 1 the count of predicates.
+    pub fn write(&self) -> Result<Vec<u8>, Refusal> {
+        match self.write_as(Version::One) {
+            Err(Refusal { number: 4, place: COUNT }) => self.write_as(Version::Two),
+            written => written,
+        }
     }
 
     /// The book's bytes, once the library has read them back as this same book.
@@ -215,10 +235,22 @@ mod tests {
     }
 
     #[test]
+    fn river_has_its_bytes_in_version_2() {
+        let bytes = [
+            0, 0, 0, 0x29, 2, 0, 3, 1, 2, 1, 3, 1, 0, 0, 0, 1, 1, 0, 1, 0, 1, 1, 0, 1, 0, 1, 2, 1, 0, 2, 1, 1, 0, 0, 1,
+            1, 0, 1, 0, 1, 1, 1, 0, 2, 1,
+        ];
+        assert_eq!(river().write_as(Version::Two).unwrap(), bytes);
+        assert_eq!(Book::read(&bytes).unwrap(), river());
+    }
+
+    #[test]
     fn what_a_form_has_no_place_for_is_refused() {
         let refusal = |book: &Book| book.write().unwrap_err().number;
         let mut book = river();
-        book.arities.resize(65, 1);
+        book.arities.resize(1_025, 1);
+        assert_eq!(refusal(&book), 4);
+        book.arities.resize(1 << 20, 1);
         assert_eq!(refusal(&book), 4);
         let mut book = river();
         book.arities[2] = 1 << 20;

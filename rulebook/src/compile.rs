@@ -229,7 +229,7 @@ fn alone(rule: &Rule, text: &parser::Rule) -> Book {
 /// What the library refuses of a rule, in the words of the text.
 fn refused(rule: &Rule, text: &parser::Rule) -> Option<Fault> {
     let mut book = alone(rule, text);
-    // a rule of counts out of range may name no predicate, or more than a book has
+    // a rule of counts out of range may name no predicate, or more than version 1 has; the places below are that version's
     book.arities.resize(book.arities.len().clamp(1, 64), 1);
     let Refusal { number, place } = match book.write() {
         Ok(_) => return None,
@@ -292,10 +292,10 @@ fn refused_counts(predicates: &Predicates, rules: &[(Span, Rule)], faults: &mut 
     }
     let count = predicates.list.len();
     if let Some(number) = refusal(Book { arities: vec![1; count], rules: vec![] }) {
-        match predicates.list.get(64) {
+        match predicates.list.get(1_024) {
             Some(predicate) => {
-                let says = format!("{count} predicates, of which this is the 65th");
-                faults.push(Fault::new(predicate.at, says, "at most 64 predicates in a book").refused(number));
+                let says = format!("{count} predicates, of which this is the 1,025th");
+                faults.push(Fault::new(predicate.at, says, "at most 1,024 predicates in a book").refused(number));
             }
             None if faults.is_empty() => {
                 let says = "a book without a predicate";
@@ -439,7 +439,24 @@ mod tests {
         assert_eq!(compiled(&rules).unwrap_err()[0].1, Some(5));
         assert!(compiled(&many(64, "p(?x) :- q(?x) .", "\n")).is_ok());
         let declared = |count: usize| (0..count).map(|p| format!("@declare p{p}(1) .\n")).collect::<String>();
-        assert_eq!(compiled(&declared(65)).unwrap_err()[0].1, Some(4));
-        assert!(compiled(&declared(64)).is_ok());
+        assert_eq!(compiled(&declared(1_025)).unwrap_err()[0].1, Some(4));
+        assert!(compiled(&declared(1_024)).is_ok());
+    }
+
+    #[test]
+    fn the_version_follows_the_count_of_predicates() {
+        let declared = |count: usize| (0..count).map(|p| format!("@declare p{p}(1) .\n")).collect::<String>();
+        for (count, version) in [(1, 1), (64, 1), (65, 2), (255, 2), (256, 2), (257, 2), (1_024, 2)] {
+            let Compiled { book, bytes, .. } = compiled(&declared(count)).unwrap();
+            assert_eq!((book.arities.len(), bytes[4]), (count, version));
+        }
+        // a rule behind them, over the last
+        let text = declared(1_023) + "p1022(?x), late(?x, !y) :- p300(?x) .";
+        let Compiled { book, bytes, .. } = compiled(&text).unwrap();
+        assert_eq!((bytes[4], book.rules[0].disjuncts[0][1].predicate), (2, 1_023));
+        assert!(bytes.ends_with(&[1, 1, 1, 44, 0, 1, 2, 3, 254, 0, 3, 255, 0, 1]));
+        // its faults are told at their places
+        let faults = compiled(&(declared(1_023) + "p1(?x) | p1(!y) :- p300(?x) .")).unwrap_err();
+        assert_eq!((faults.len(), faults[0].1), (1, Some(9)));
     }
 }

@@ -63,8 +63,8 @@ pub fn condition(number: u8) -> &'static str {
     match number {
         1 => "a list that the caller lends is too short",
         2 => "there are under four bytes, or the stated length is not the count of bytes behind it",
-        3 => "the version is not 1",
-        4 => "the count of predicates is not 1 to 64, or an arity is not 1 to 4",
+        3 => "the version is not 1 or 2",
+        4 => "the count of predicates is not 1 to 64 (version 2: 1 to 1,024), or an arity is not 1 to 4",
         5 => "there are more than 64 rules",
         6 => "a count of atoms or of alternatives is not 1 to 4",
         7 => "a predicate is not declared, or a variable is over 7",

@@ -5,7 +5,7 @@ mod support;
 use rulebook::command::Said;
 use rulebook::names::Names;
 use rulebook::show;
-use support::{book, files, folder, said, Random};
+use support::{book, files, folder, said, written, Random};
 
 const TEXTS: usize = 100_000;
 
@@ -210,7 +210,7 @@ fn damaged_bytes() {
         assert!(is_json(&said(&["check", "--book", "--json", "-"], &bytes).out));
         let shown = said(&["show", "-"], &bytes);
         if shown.status == 0 {
-            assert_eq!(said(&["compile", "-"], &shown.out).out, bytes);
+            assert_eq!(said(&["compile", "-"], &shown.out).out, written(&bytes));
         }
     }
 }

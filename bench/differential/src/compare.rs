@@ -1,8 +1,8 @@
 //! One rule set through the reference and through the library.
 
-use differential::random::Random;
-use reference::{form, stages, Verdict};
-use rulfjen::lists;
+use crate::random::Random;
+use reference::{book, convert, form, stages, Verdict};
+use rulfjen::{books, lists};
 
 /// A list's length: what is asked for, or some more, or one less now and then.
 fn length(random: &mut Random, front: usize) -> usize {
@@ -39,7 +39,7 @@ fn bytes(numbers: &[u16]) -> Vec<u8> {
     numbers.iter().map(|&n| n as u8).collect()
 }
 
-pub fn same_verdict(of_library: rulfjen::Verdict) -> Verdict {
+fn same_verdict(of_library: rulfjen::Verdict) -> Verdict {
     match of_library {
         rulfjen::Verdict::Accepted { stage, facts, terms } => Verdict::Accepted { stage, facts, terms },
         rulfjen::Verdict::Cyclic { stage, facts, terms } => Verdict::Cyclic { stage, facts, terms },
@@ -94,8 +94,13 @@ pub fn compare(book: &[u8], random: &mut Random) -> Result<(stages::Checked, Ver
     expect_list("byte of the text", &text, &library_text)?;
 
     compare_forms(book, random)?;
+    compare_converted(book, random)?;
     Ok((checked, verdict))
 }
+
+/// Numbers on either side of the limits and of what a byte holds; 1 and 2 are versions.
+const NUMBERS: [u16; 24] =
+    [0, 1, 1, 2, 2, 3, 4, 5, 7, 8, 63, 64, 65, 255, 256, 257, 258, 512, 513, 1_023, 1_024, 1_025, 1_026, 65_535];
 
 /// Compares reading, and writing of forms that are whole, changed or short.
 fn compare_forms(book: &[u8], random: &mut Random) -> Result<(), String> {
@@ -111,24 +116,30 @@ fn compare_forms(book: &[u8], random: &mut Random) -> Result<(), String> {
     }
     compare_written(&form, random)?;
     for _ in 0..random.within(1, 3) {
-        let at = match random.within(0, 3) {
+        let at = match random.within(0, 5) {
             0 => random.within(0, 1),
             1 => random.within(0, 12),
-            2 => 2 + random.within(0, 5) * 106 + random.within(0, 105),
-            _ => random.within(6_786, 6_849),
+            2 => 2 + random.within(0, 5) * form::RULE + random.within(0, form::RULE - 1),
+            3 => random.within(form::ARITIES, form::VERSION - 1),
+            4 => form::VERSION,
+            _ => random.within(form::ARITIES, form::LENGTH - 1),
         };
         if let Some(number) = form.get_mut(at) {
-            *number = random.one_of(&[0, 1, 2, 3, 4, 5, 7, 8, 63, 64, 65, 255, 256, 257, 65_535]);
+            *number = random.one_of(&NUMBERS);
         }
     }
     if random.once_in(10) {
-        form.truncate(random.within(0, form.len()));
+        form.truncate(match random.within(0, 3) {
+            0 => form::LENGTH - 1,
+            1 => form::VERSION,
+            _ => random.within(0, form.len()),
+        });
     }
     compare_written(&form, random)
 }
 
 fn compare_written(form: &[u16], random: &mut Random) -> Result<(), String> {
-    let room = form::write_form(form, &mut [0; 7_000]).unwrap_or(100);
+    let room = form::write_form(form, &mut [0; book::LONGEST]).unwrap_or(100);
     let list_length = match random.within(0, 9) {
         0 => room - 1,
         1 => random.within(0, room - 1),
@@ -141,4 +152,57 @@ fn compare_written(form: &[u16], random: &mut Random) -> Result<(), String> {
     let library_written = same_transfer(lists::write(form, &mut library_out));
     expect("written", &written, &library_written)?;
     expect_list("byte written", &out, &library_out)
+}
+
+type Converter<Refusal> = fn(&[u8], &mut [u8]) -> Result<usize, Refusal>;
+
+const CONVERTERS: [(&str, Converter<reference::Refusal>, Converter<rulfjen::Refusal>); 2] =
+    [("upgrade", convert::upgrade, books::lists::upgrade), ("downgrade", convert::downgrade, books::lists::downgrade)];
+
+/// Compares both converters, on lists of any length that are not clear.
+fn compare_converted(book: &[u8], random: &mut Random) -> Result<(), String> {
+    for (what, of_reference, of_library) in CONVERTERS {
+        let room = length(random, book::LONGEST);
+        let mut out = bytes(&dirt(random, room));
+        let mut library_out = out.clone();
+        let converted = of_reference(book, &mut out);
+        let library_converted = same_transfer(of_library(book, &mut library_out));
+        expect(what, &converted, &library_converted)?;
+        expect_list(&format!("byte of the {what}"), &out, &library_out)?;
+    }
+    Ok(())
+}
+
+/// The rule set in its other version, by the library, if it has one.
+fn converted(book: &[u8]) -> Option<Vec<u8>> {
+    CONVERTERS.iter().find_map(|(_, _, convert)| {
+        let mut out = vec![0; book::LONGEST];
+        let length = convert(book, &mut out).ok()?;
+        out.truncate(length);
+        Some(out)
+    })
+}
+
+/// The library's verdict at depth 1, with its tables.
+fn tables(book: &[u8]) -> (rulfjen::Verdict, Vec<u16>, Vec<u16>) {
+    let (mut terms, mut facts) = (vec![0; stages::TERMS_FRONT], vec![0; stages::FACTS_FRONT]);
+    let verdict = lists::check(book, 1, &mut terms, &mut facts);
+    (verdict, terms, facts)
+}
+
+/// Where a rule set has another version: the library gives the same verdict and tables on it, and converts it back to the
+/// same bytes. Answers whether it has one.
+pub fn same_in_both_versions(book: &[u8]) -> Result<bool, String> {
+    let Some(other) = converted(book) else { return Ok(false) };
+    if converted(&other).as_deref() != Some(book) {
+        return Err("converted back: other bytes".to_string());
+    }
+    let ((verdict, terms, facts), (other_verdict, other_terms, other_facts)) = (tables(book), tables(&other));
+    if verdict != other_verdict {
+        return Err(format!("versions {} and {}: {verdict:?}, {other_verdict:?}", book[4], other[4]));
+    }
+    if terms != other_terms || facts != other_facts {
+        return Err(format!("versions {} and {}: other tables", book[4], other[4]));
+    }
+    Ok(true)
 }

@@ -1,8 +1,8 @@
-//! Rule sets of several classes, each from its own random numbers.
+//! Rule sets of version 1, of several classes, each from its own random numbers.
 
 use crate::random::Random;
 use reference::draft::{Draft, Sketch};
-use reference::{check, Atom, Book, Checked, Rule, Verdict};
+use reference::{check, Atom, Book, Checked, Rule, Verdict, Version};
 
 #[derive(Clone, Copy, PartialEq, Eq, PartialOrd, Ord, Debug)]
 pub enum Class {
@@ -51,7 +51,7 @@ pub fn generate(random: &mut Random) -> (Class, Vec<u8>) {
     (class, of_class(class, random))
 }
 
-fn of_class(class: Class, random: &mut Random) -> Vec<u8> {
+pub(crate) fn of_class(class: Class, random: &mut Random) -> Vec<u8> {
     match class {
         Class::Small => random_book(random, 5, 5, true).bytes(),
         Class::Medium => random_book(random, 12, 14, true).bytes(),
@@ -63,7 +63,11 @@ fn of_class(class: Class, random: &mut Random) -> Vec<u8> {
         Class::Facts => shuffled(facts(random), random).book.bytes(),
         Class::Terms => shuffled(terms(random), random).book.bytes(),
         Class::Crowded => shuffled(crowded(random), random).book.bytes(),
-        Class::Long => long(random).bytes(),
+        Class::Long => {
+            let wide = random.once_in(2);
+            let predicates = random.one_of(&[1, 63, 64, 64, 64, 65]);
+            long(random, Version::One, predicates, wide).bytes()
+        }
         Class::Unsound => random_book(random, 5, 5, false).bytes(),
         Class::Damaged => damaged(random),
     }
@@ -87,7 +91,7 @@ pub fn shuffled(mut draft: Draft, random: &mut Random) -> Draft {
         random.shuffle(&mut rule.disjuncts);
         rule.disjuncts.iter_mut().for_each(|disjunct| random.shuffle(disjunct));
         for atom in rule.body.iter_mut().chain(rule.disjuncts.iter_mut().flatten()) {
-            atom.predicate = order[atom.predicate as usize] as u8;
+            atom.predicate = order[atom.predicate as usize] as u16;
             for v in &mut atom.variables[..atom.arity as usize] {
                 *v = variables[*v as usize];
             }
@@ -104,7 +108,7 @@ fn atom(random: &mut Random, arities: &[u8], pool: &[u8]) -> Atom {
     for v in &mut variables[..arity as usize] {
         *v = random.one_of(pool);
     }
-    Atom { predicate: predicate as u8, arity, variables }
+    Atom { predicate: predicate as u16, arity, variables }
 }
 
 fn body_variables(body: &[Atom]) -> Vec<u8> {
@@ -156,7 +160,7 @@ fn random_book(random: &mut Random, most_predicates: usize, most_rules: usize, s
     let arities = arities(random, most_predicates);
     let count = random.within(0, most_rules);
     let rules = (0..count).map(|_| rule(random, &arities, 3, sound)).collect();
-    Book { arities, rules }
+    Book { version: Version::One, arities, rules }
 }
 
 /// Existential rules from level to level, Datalog between the levels, now and then a way back.
@@ -599,10 +603,8 @@ fn terms(random: &mut Random) -> Draft {
     }
 }
 
-/// As many predicates and rules as there may be, or nearly, or one too many.
-fn long(random: &mut Random) -> Book {
-    let wide = random.once_in(2);
-    let predicates = random.one_of(&[1, 63, 64, 64, 64, 65]);
+/// As many rules as there may be, or nearly, or one too many, over so many predicates, perhaps all of them of arity 4.
+pub(crate) fn long(random: &mut Random, version: Version, predicates: usize, wide: bool) -> Book {
     let arities: Vec<u8> = (0..predicates).map(|_| if wide { 4 } else { random.within(1, 4) as u8 }).collect();
     let count = random.one_of(&[1, 62, 63, 64, 64, 64, 65]);
     let most = if wide { 4 } else { random.within(1, 4) };
@@ -627,28 +629,35 @@ fn long(random: &mut Random) -> Book {
             }
         })
         .collect();
-    Book { arities, rules }
+    Book { version, arities, rules }
 }
 
-/// What a byte of a rule set says.
+/// What a byte of a rule set says. Of a number of two bytes the first has a role of its own.
 #[derive(Clone, Copy, PartialEq, Eq)]
-enum Role {
+pub(crate) enum Role {
     Version,
+    PredicatesHigh,
     Predicates,
     Arity,
     Rules,
     Count,
+    PredicateHigh,
     Predicate,
     Variable,
 }
 
-fn roles(book: &Book) -> Vec<Role> {
-    let mut roles = vec![Role::Version, Role::Predicates];
+/// Of each byte behind the length.
+pub(crate) fn roles(book: &Book) -> Vec<Role> {
+    let high = |role: Role| (book.version == Version::Two).then_some(role);
+    let mut roles = vec![Role::Version];
+    roles.extend(high(Role::PredicatesHigh));
+    roles.push(Role::Predicates);
     roles.extend(book.arities.iter().map(|_| Role::Arity));
     roles.push(Role::Rules);
     let atoms = |atoms: &[Atom], roles: &mut Vec<Role>| {
         roles.push(Role::Count);
         for atom in atoms {
+            roles.extend(high(Role::PredicateHigh));
             roles.push(Role::Predicate);
             roles.extend(atom.variables().iter().map(|_| Role::Variable));
         }
@@ -661,31 +670,73 @@ fn roles(book: &Book) -> Vec<Role> {
     roles
 }
 
-/// A rule set of another class with some of its bytes changed, and its stated length mended, or not.
+/// A rule set of another class, damaged.
 fn damaged(random: &mut Random) -> Vec<u8> {
     let class =
         random.one_of(&[Class::Small, Class::Small, Class::Nested, Class::Divided, Class::Divided, Class::Long]);
-    let mut bytes = of_class(class, random);
+    let bytes = of_class(class, random);
+    damage(random, bytes)
+}
+
+/// The stated length as long as the bytes behind it.
+pub(crate) fn mend(bytes: &mut [u8]) {
+    let length = bytes.len() as u32 - 4;
+    bytes[..4].copy_from_slice(&length.to_be_bytes());
+}
+
+/// A role for a byte to be changed: that of any byte, or one that few bytes have.
+fn chosen(random: &mut Random, roles: &[Role], version: Version) -> Role {
+    use Role::{Count, Predicate, PredicateHigh, Predicates, PredicatesHigh, Rules, Version as V};
+    let any = roles[random.within(0, roles.len() - 1)];
+    match version {
+        Version::One => random.one_of(&[any, any, V, Predicates, Rules, Count]),
+        Version::Two => random.one_of(&[
+            any,
+            any,
+            V,
+            PredicatesHigh,
+            Predicates,
+            PredicateHigh,
+            PredicateHigh,
+            Predicate,
+            Rules,
+            Count,
+        ]),
+    }
+}
+
+/// A value for a byte of a role, just out of its range, or at its end.
+fn value(random: &mut Random, role: Role, book: &Book) -> u8 {
+    let count = book.arities.len();
+    match (role, book.version) {
+        (Role::Version, Version::One) => random.one_of(&[0, 2, 255]),
+        (Role::Version, Version::Two) => random.one_of(&[0, 1, 3, 255]),
+        (Role::PredicatesHigh, _) => random.one_of(&[0, 1, 3, 4, 5, 255]),
+        (Role::Predicates, _) => random.one_of(&[0, 65, 64, 255, 1]),
+        (Role::Arity, _) => random.one_of(&[0, 5, 4, 1]),
+        (Role::Rules, _) => random.one_of(&[65, 64, 0, 255]),
+        (Role::Count, _) => random.one_of(&[0, 5, 4, 1]),
+        (Role::PredicateHigh, _) => {
+            let last = ((count - 1) >> 8) as u8;
+            random.one_of(&[last, last + 1, 0, 4, 255])
+        }
+        (Role::Predicate, _) => random.one_of(&[count as u8, (count - 1) as u8, 255]),
+        (Role::Variable, _) => random.one_of(&[8, 7, 0, 255]),
+    }
+}
+
+/// Some of a rule set's bytes changed, and its stated length mended, or not.
+pub(crate) fn damage(random: &mut Random, mut bytes: Vec<u8>) -> Vec<u8> {
     let sound = reference::read(&bytes).ok();
     for _ in 0..random.one_of(&[1, 1, 1, 2, 3]) {
         let last = bytes.len() - 1;
         let at = random.within(4.min(last), last);
         match (random.within(0, 7), &sound) {
             (0..=2, Some(book)) => {
-                // a byte of a chosen role, just out of its range, or at its end
                 let roles = roles(book);
-                let role = roles[random.within(0, roles.len() - 1)];
-                let role = random.one_of(&[role, role, Role::Version, Role::Predicates, Role::Rules, Role::Count]);
+                let role = chosen(random, &roles, book.version);
                 let places: Vec<usize> = (0..roles.len()).filter(|&k| roles[k] == role).collect();
-                let value = match role {
-                    Role::Version => random.one_of(&[0, 2, 255]),
-                    Role::Predicates => random.one_of(&[0, 65, 64, 255, 1]),
-                    Role::Arity => random.one_of(&[0, 5, 4, 1]),
-                    Role::Rules => random.one_of(&[65, 64, 0, 255]),
-                    Role::Count => random.one_of(&[0, 5, 4, 1]),
-                    Role::Predicate => random.one_of(&[book.arities.len() as u8, book.arities.len() as u8 - 1, 255]),
-                    Role::Variable => random.one_of(&[8, 7, 0, 255]),
-                };
+                let value = value(random, role, book);
                 if let Some(byte) =
                     places.get(random.within(0, places.len().max(1) - 1)).and_then(|k| bytes.get_mut(4 + k))
                 {
@@ -708,8 +759,7 @@ fn damaged(random: &mut Random) -> Vec<u8> {
         let at = random.within(0, 3);
         bytes[at] ^= 1 << random.within(0, 7);
     } else if !random.once_in(10) {
-        let length = bytes.len() as u32 - 4;
-        bytes[..4].copy_from_slice(&length.to_be_bytes());
+        mend(&mut bytes);
     }
     if random.once_in(30) {
         bytes.truncate(random.within(0, 4));

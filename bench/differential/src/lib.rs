@@ -1,4 +1,6 @@
-//! Generated rule sets, for those who try the library on them. A test instrument: unproved.
+//! Generated rule sets, and the library on them beside the reference. A test instrument: unproved.
 
+pub mod compare;
 pub mod generate;
 pub mod random;
+pub mod wide;

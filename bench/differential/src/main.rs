@@ -1,13 +1,15 @@
 //! Compares answers, tables and text of the static library with those of the reference. A test instrument: unproved.
 //!
 //!     differential vectors FOLDER          the library on NAME.book must print NAME.txt, and NAME-depthD.txt at depth D
-//!     differential [SEED [COUNT]]          generated rule sets from a seed, 20,000 by default
-//!     differential SEED only INDEX         one of them, written to standard output
+//!     differential cases FILE..            the library on the books of files of cases, to which `cases` holds the reference
+//!     differential [versions] [SEED [COUNT]]
+//!                                          generated rule sets from a seed, 20,000 by default; of both versions, and in
+//!                                          both where that can be
+//!     differential [versions] SEED only INDEX
+//!                                          one of them, written to standard output
 
-mod compare;
-
-use differential::generate::{self, Class};
 use differential::random::Random;
+use differential::{compare, generate, wide};
 use reference::Verdict;
 use std::collections::BTreeMap;
 use std::io::Write;
@@ -37,6 +39,29 @@ fn vectors(folder: &str) -> std::io::Result<bool> {
     Ok(failed == 0 && passed > 0)
 }
 
+/// The books of files of cases, each with lists and depths by lot, some times.
+fn cases(files: &[String]) -> std::io::Result<bool> {
+    let (mut agree, mut differ) = (0, 0);
+    for file in files {
+        for case in reference::cases::cases(&std::fs::read_to_string(file)?) {
+            let book = case.book();
+            let compared = (0..10).try_for_each(|index| {
+                compare::compare(&book, &mut Random::new(agree as u64, index))?;
+                compare::same_in_both_versions(&book).map(|_| ())
+            });
+            match compared {
+                Ok(()) => agree += 1,
+                Err(difference) => {
+                    println!("{file}, {}:\n{difference}", case.name);
+                    differ += 1;
+                }
+            }
+        }
+    }
+    println!("books of cases: {agree} agree, {differ} differ");
+    Ok(differ == 0 && agree > 0)
+}
+
 fn row_of(verdict: Verdict) -> String {
     match verdict {
         Verdict::Accepted { .. } => "accepted".to_string(),
@@ -51,34 +76,74 @@ struct Tally {
     rows: BTreeMap<String, usize>,
     /// Comparisons with a list too short.
     short: usize,
+    /// Checked in both versions.
+    both: usize,
     tested: usize,
     blocked: usize,
     with_blocked: usize,
     time: Duration,
 }
 
-fn generated(seed: u64, count: u64) -> bool {
+/// What is compared: rule sets of version 1, or of both versions.
+#[derive(Clone, Copy, PartialEq, Eq)]
+enum Subject {
+    One,
+    Both,
+}
+
+/// A class, with its place among the columns.
+type Class = (usize, String);
+
+impl Subject {
+    fn generate(self, random: &mut Random) -> (Class, Vec<u8>) {
+        match self {
+            Subject::One => {
+                let (class, book) = generate::generate(random);
+                ((class as usize, format!("{class:?}")), book)
+            }
+            Subject::Both => {
+                let (class, book) = wide::generate(random);
+                ((class as usize, format!("{class:?}")), book)
+            }
+        }
+    }
+
+    /// The words that name it on the command line.
+    fn words(self) -> &'static str {
+        match self {
+            Subject::One => "differential",
+            Subject::Both => "differential versions",
+        }
+    }
+}
+
+fn generated(subject: Subject, seed: u64, count: u64) -> bool {
     println!("seed {seed}, {count} rule sets");
     let mut tallies: BTreeMap<Class, Tally> = BTreeMap::new();
     let mut differ = 0;
     let mut slowest = (Duration::ZERO, 0);
     for index in 0..count {
         let mut random = Random::new(seed, index);
-        let (class, book) = generate::generate(&mut random);
+        let (class, book) = subject.generate(&mut random);
         let start = Instant::now();
-        match compare::compare(&book, &mut random) {
-            Ok((checked, verdict)) => {
+        let compared = compare::compare(&book, &mut random).and_then(|(checked, verdict)| {
+            let both = subject == Subject::Both && compare::same_in_both_versions(&book)?;
+            Ok((checked, verdict, both))
+        });
+        match compared {
+            Ok((checked, verdict, both)) => {
                 let tally = tallies.entry(class).or_default();
                 tally.books += 1;
                 *tally.rows.entry(row_of(checked.verdict)).or_default() += 1;
                 tally.short += matches!(verdict, Verdict::Refused { number: 1, .. }) as usize;
+                tally.both += both as usize;
                 tally.tested += checked.seen.tested;
                 tally.blocked += checked.seen.blocked;
                 tally.with_blocked += (checked.seen.blocked > 0) as usize;
                 tally.time += start.elapsed();
             }
             Err(difference) => {
-                println!("rule set {index}, {class:?}: differential {seed} only {index}\n{difference}");
+                println!("rule set {index}, {}: {} {seed} only {index}\n{difference}", class.1, subject.words());
                 differ += 1;
                 if differ == 20 {
                     return false;
@@ -89,7 +154,7 @@ fn generated(seed: u64, count: u64) -> bool {
     }
     print_tallies(&tallies);
     println!("the slowest: rule set {}, {:.1?}", slowest.1, slowest.0);
-    println!("differential: {} agree, {differ} differ", count - differ);
+    println!("{}: {} agree, {differ} differ", subject.words(), count - differ);
     differ == 0
 }
 
@@ -104,13 +169,16 @@ fn print_tallies(tallies: &BTreeMap<Class, Tally>) {
     };
     let sum = |number: &dyn Fn(&Tally) -> usize| tallies.values().map(number).sum::<usize>().to_string();
     print!("{:<14}", "");
-    tallies.keys().for_each(|class| print!("{:>10}", format!("{class:?}")));
+    tallies.keys().for_each(|class| print!("{:>10}", class.1));
     println!("{:>10}", "all");
     for row in &rows {
         let number = |tally: &Tally| tally.rows.get(row).copied().unwrap_or(0);
         line(row, &|tally| number(tally).to_string(), sum(&number));
     }
     line("short lists", &|tally| tally.short.to_string(), sum(&|tally| tally.short));
+    if tallies.values().any(|tally| tally.both > 0) {
+        line("both versions", &|tally| tally.both.to_string(), sum(&|tally| tally.both));
+    }
     line("rule sets", &|tally| tally.books.to_string(), sum(&|tally| tally.books));
     line("with blocked", &|tally| tally.with_blocked.to_string(), sum(&|tally| tally.with_blocked));
     line("tests", &|tally| tally.tested.to_string(), sum(&|tally| tally.tested));
@@ -119,19 +187,25 @@ fn print_tallies(tallies: &BTreeMap<Class, Tally>) {
 }
 
 fn main() -> std::io::Result<()> {
-    let words: Vec<String> = std::env::args().skip(1).collect();
+    let mut words: Vec<String> = std::env::args().skip(1).collect();
+    let mut subject = Subject::One;
+    if words.first().is_some_and(|word| word == "versions") {
+        subject = Subject::Both;
+        words.remove(0);
+    }
     let number = |k: usize, default: u64| words.get(k).map_or(default, |word| word.parse().expect("a number"));
     let good = match words.iter().map(String::as_str).collect::<Vec<_>>()[..] {
         ["vectors", folder] => vectors(folder)?,
+        ["cases", ..] => cases(&words[1..])?,
         [_, "only", _] => {
             let mut random = Random::new(number(0, 0), number(2, 0));
-            let (_, book) = generate::generate(&mut random);
+            let (_, book) = subject.generate(&mut random);
             std::io::stdout().write_all(&book)?;
             true
         }
         _ => {
             let clock = std::time::SystemTime::now().duration_since(std::time::UNIX_EPOCH).map_or(0, |d| d.as_nanos());
-            generated(number(0, clock as u64), number(1, 20_000))
+            generated(subject, number(0, clock as u64), number(1, 20_000))
         }
     };
     std::process::exit(!good as i32);

@@ -39,7 +39,7 @@ fn clause(rule: &Rule, head: &Atom) -> String {
 
 pub fn program(book: &Book) -> String {
     let critical = |(predicate, &arity): (usize, &u8)| {
-        let atom = Atom { predicate: predicate as u8, arity, variables: [0; 4] };
+        let atom = Atom { predicate: predicate as u16, arity, variables: [0; 4] };
         literal(&atom, |_| "star".to_string()) + ".\n"
     };
     let rules = RuleSet::new(book).rules;

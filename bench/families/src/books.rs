@@ -2,12 +2,14 @@
 
 use crate::paths;
 use crate::stars::{self, FOUR, SEVEN};
+use crate::wide;
 use differential::generate::generate;
 use differential::random::Random;
+use reference::convert::upgrade;
 use reference::draft::{Draft, Sketch};
 
 pub struct Family {
-    pub name: &'static str,
+    pub name: String,
     /// What the size counts.
     pub size: &'static str,
     pub depth: usize,
@@ -34,6 +36,8 @@ const ROWS: &[Row] = &[
     ("Fork", "doublings", &[1, 2, 3, 4, 5, 6], &[], fork),
     ("Chain", "links", &[2, 4, 8, 16], &[], paths::chain),
     ("Predicates", "predicates", &[8, 16, 32, 64], &[], predicates),
+    ("Predicates, spread", "predicates", &[64, 128, 256, 512, 1_024], &[], |n| wide::spread(predicates(64), n)),
+    ("Feeds", "predicates", &[64, 128, 256, 512, 1_024], &[], wide::feeds),
     ("Joins", "predicates", &[8, 16, 32, 64], &[], joins),
     ("Large terms", "terms", &[1, 2, 4, 8], &[], large_terms),
     ("Limits", "rules", &[16, 32, 64], &[], limits),
@@ -60,7 +64,7 @@ const ROWS: &[Row] = &[
 fn family(&(name, size, both, alone, book): &Row) -> Family {
     let sizes = both.iter().map(|&n| (n, true)).chain(alone.iter().map(|&n| (n, false)));
     let members = sizes.map(|(n, beside)| Member { size: n, books: vec![book(n).book.bytes()], beside }).collect();
-    Family { name, size, depth: 1, members }
+    Family { name: name.to_string(), size, depth: 1, members }
 }
 
 const LETTERS: [u8; 4] = [0, 1, 2, 3];
@@ -280,7 +284,8 @@ fn pedigrees(lines: usize) -> Draft {
 
 /// A family of one size.
 fn single(name: &'static str, size: &'static str, count: usize, books: Vec<Vec<u8>>) -> Family {
-    Family { name, size, depth: 1, members: vec![Member { size: count, books, beside: true }] }
+    let members = vec![Member { size: count, books, beside: true }];
+    Family { name: name.to_string(), size, depth: 1, members }
 }
 
 /// The rule sets of a folder of vectors, cut as the program cuts its input.
@@ -311,6 +316,26 @@ fn generated(number: usize) -> Family {
     single("Generated, slowest", "of seed 1115", number, vec![book])
 }
 
+/// The families that are timed in both versions.
+fn in_both(name: &str) -> bool {
+    ["Predicates", "Joins", "Limits", "Vectors"].contains(&name)
+}
+
+/// What the name of a family in version 2 ends with.
+pub const UPGRADED: &str = ", upgraded";
+
+/// The same rule sets in version 2; those that do not convert as they were.
+fn upgraded(family: &Family) -> Family {
+    let book = |book: &Vec<u8>| {
+        let mut out = vec![0; reference::book::LONGEST];
+        let length = upgrade(book, &mut out);
+        length.map_or_else(|_| book.clone(), |length| out[..length].to_vec())
+    };
+    let member = |member: &Member| Member { books: member.books.iter().map(book).collect(), ..*member };
+    let members = family.members.iter().map(member).collect();
+    Family { name: format!("{}{UPGRADED}", family.name), members, ..*family }
+}
+
 pub fn families(folder: &str) -> std::io::Result<Vec<Family>> {
     let mut families: Vec<Family> = ROWS.iter().map(family).collect();
     families.push(Family { depth: 3, ..family(&("Pedigrees, depth 3", "lines", &[5, 10, 20], &[], pedigrees)) });
@@ -319,5 +344,7 @@ pub fn families(folder: &str) -> std::io::Result<Vec<Family>> {
     // of the first 20,000, at depth 1
     families.extend([13916, 11204, 2408].map(generated));
     families.push(vectors(folder)?);
+    let upgrades: Vec<Family> = families.iter().filter(|family| in_both(&family.name)).map(upgraded).collect();
+    families.extend(upgrades);
     Ok(families)
 }

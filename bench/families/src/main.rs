@@ -16,8 +16,9 @@ mod export;
 mod paths;
 mod stars;
 mod timing;
+mod wide;
 
-use books::Family;
+use books::{Family, UPGRADED};
 use reference::Verdict;
 use std::time::Duration;
 use timing::{Bench, PATIENCE};
@@ -89,6 +90,8 @@ fn line(cells: &[String]) {
 struct Table {
     with_times: bool,
     worst: (f64, String),
+    /// The library's time for each family and size.
+    rattle: Vec<(String, usize, Duration)>,
     good: bool,
 }
 
@@ -114,6 +117,7 @@ impl Table {
             let verdict = (member.books.len() == 1).then(|| bench.answer(member, family.depth));
             let now = Times { size, facts: verdict.and_then(facts), rust, rattle };
             self.row(family, &before, &now, verdict.map_or("all".to_string(), text));
+            self.rattle.push((family.name.clone(), size, rattle));
             before.push(now);
             if rattle > PATIENCE {
                 break;
@@ -124,7 +128,7 @@ impl Table {
     fn row(&mut self, family: &Family, before: &[Times], now: &Times, answer: String) {
         let ratio = now.rust.map(|rust| over(now.rattle, rust));
         let mut cells = vec![
-            family.name.to_string(),
+            family.name.clone(),
             format!("{} {}", now.size, family.size),
             answer,
             ratio.map_or("-".to_string(), |ratio| format!("{ratio:.2}")),
@@ -140,6 +144,19 @@ impl Table {
         line(&cells);
         if let Some(ratio) = ratio.filter(|&ratio| ratio > self.worst.0) {
             self.worst = (ratio, format!("{} {}", family.name, now.size));
+        }
+    }
+}
+
+impl Table {
+    /// How many times as long as in version 1 the library took for the families that are timed in both.
+    fn versions(&self) {
+        let one = |name: &str, size: usize| self.rattle.iter().find(|row| (row.0.as_str(), row.1) == (name, size));
+        for (name, size, two) in &self.rattle {
+            let of_one = name.strip_suffix(UPGRADED).and_then(|name| one(name, *size));
+            if let Some((name, _, of_one)) = of_one {
+                println!("{name} {size}: {:.2} times as long in version 2", over(*two, *of_one));
+            }
         }
     }
 }
@@ -161,12 +178,13 @@ fn main() -> std::io::Result<()> {
         return export::write(&families, out.as_ref());
     }
     let with_times = words.iter().any(|word| word == "--times");
-    let mut table = Table { with_times, worst: (0.0, String::new()), good: true };
+    let mut table = Table { with_times, worst: (0.0, String::new()), rattle: Vec::new(), good: true };
     let mut bench = Bench::default();
     table.heading();
     for family in &families {
         table.family(family, &mut bench);
     }
     println!("\nThe largest ratio: {:.2}, {}.", table.worst.0, table.worst.1);
+    table.versions();
     std::process::exit(!table.good as i32);
 }

@@ -1,9 +1,44 @@
-//! Rule sets (document 01: books) and their bytes.
+//! Rule sets (document 01: books) and their bytes, in the versions of document 01 and of C-15.
 
-pub const MOST_PREDICATES: usize = 64;
 pub const MOST_RULES: usize = 64;
 pub const VARIABLES: usize = 8;
-pub const LONGEST: usize = 6_855;
+/// Bytes of the longest rule set of any version.
+pub const LONGEST: usize = 9_096;
+
+/// How a rule set's bytes are to be read.
+#[derive(Clone, Copy, PartialEq, Eq, Debug, Default)]
+pub enum Version {
+    #[default]
+    One = 1,
+    Two = 2,
+}
+
+impl Version {
+    pub const ALL: [Version; 2] = [Version::One, Version::Two];
+
+    pub fn number(self) -> u8 {
+        self as u8
+    }
+
+    pub fn of(number: u16) -> Option<Version> {
+        Version::ALL.into_iter().find(|version| version.number() as u16 == number)
+    }
+
+    pub fn most_predicates(self) -> usize {
+        match self {
+            Version::One => 64,
+            Version::Two => 1_024,
+        }
+    }
+
+    /// The bytes of a count of predicates and of a predicate's number.
+    pub fn width(self) -> usize {
+        match self {
+            Version::One => 1,
+            Version::Two => 2,
+        }
+    }
+}
 
 /// A refusal's number, and its place.
 #[derive(Clone, Copy, PartialEq, Eq, Debug)]
@@ -19,7 +54,7 @@ pub fn refuse<T>(number: u8, place: usize) -> Result<T, Refusal> {
 /// A predicate and as many variables as its arity, the others 0.
 #[derive(Clone, Copy, PartialEq, Eq, Debug)]
 pub struct Atom {
-    pub predicate: u8,
+    pub predicate: u16,
     pub arity: u8,
     pub variables: [u8; 4],
 }
@@ -67,6 +102,7 @@ impl Rule {
 
 #[derive(Clone, PartialEq, Eq, Debug, Default)]
 pub struct Book {
+    pub version: Version,
     pub arities: Vec<u8>,
     pub rules: Vec<Rule>,
 }
@@ -75,30 +111,41 @@ pub struct Book {
 struct Reader<'a> {
     bytes: &'a [u8],
     at: usize,
+    version: Version,
 }
 
 impl Reader<'_> {
-    /// The next byte if it is within `least..=most`, else refusal `number` at it.
-    fn number(&mut self, least: u8, most: u8, number: u8) -> Result<u8, Refusal> {
-        match self.bytes.get(self.at) {
-            None => refuse(10, self.bytes.len()),
-            Some(&byte) if byte < least || byte > most => refuse(number, self.at),
-            Some(&byte) => {
-                self.at += 1;
-                Ok(byte)
-            }
+    /// The next `width` bytes, big-endian, if their number is within `least..=most`, else refusal `number` at the first.
+    fn wide(&mut self, width: usize, least: u16, most: u16, number: u8) -> Result<u16, Refusal> {
+        let Some(bytes) = self.bytes.get(self.at..self.at + width) else {
+            return refuse(10, self.bytes.len());
+        };
+        let n = bytes.iter().fold(0, |n, &byte| n << 8 | byte as u16);
+        if n < least || n > most {
+            return refuse(number, self.at);
         }
+        self.at += width;
+        Ok(n)
+    }
+
+    fn byte(&mut self, least: u8, most: u8, number: u8) -> Result<u8, Refusal> {
+        self.wide(1, least as u16, most as u16, number).map(|n| n as u8)
+    }
+
+    /// A count of predicates, or a predicate.
+    fn predicate(&mut self, least: usize, most: usize, number: u8) -> Result<u16, Refusal> {
+        self.wide(self.version.width(), least as u16, most as u16, number)
     }
 
     fn atoms(&mut self, arities: &[u8]) -> Result<Vec<Atom>, Refusal> {
-        let count = self.number(1, 4, 6)?;
+        let count = self.byte(1, 4, 6)?;
         let mut atoms = Vec::with_capacity(count as usize);
         for _ in 0..count {
-            let predicate = self.number(0, arities.len() as u8 - 1, 7)?;
+            let predicate = self.predicate(0, arities.len() - 1, 7)?;
             let arity = arities[predicate as usize];
             let mut variables = [0; 4];
             for variable in variables.iter_mut().take(arity as usize) {
-                *variable = self.number(0, 7, 7)?;
+                *variable = self.byte(0, 7, 7)?;
             }
             atoms.push(Atom { predicate, arity, variables });
         }
@@ -108,7 +155,7 @@ impl Reader<'_> {
     fn rule(&mut self, arities: &[u8]) -> Result<Rule, Refusal> {
         let start = self.at;
         let body = self.atoms(arities)?;
-        let count = self.number(1, 4, 6)?;
+        let count = self.byte(1, 4, 6)?;
         let mut disjuncts = Vec::with_capacity(count as usize);
         for _ in 0..count {
             disjuncts.push(self.atoms(arities)?);
@@ -123,6 +170,11 @@ impl Reader<'_> {
 
 /// A rule set from its bytes, or the first of refusals 2 to 10.
 pub fn read(bytes: &[u8]) -> Result<Book, Refusal> {
+    read_as(bytes, &Version::ALL, usize::MAX)
+}
+
+/// A rule set of one of these versions and of at most so many predicates.
+pub fn read_as(bytes: &[u8], versions: &[Version], most_predicates: usize) -> Result<Book, Refusal> {
     if bytes.len() < 4 {
         return refuse(2, 0);
     }
@@ -130,14 +182,18 @@ pub fn read(bytes: &[u8]) -> Result<Book, Refusal> {
     if stated as usize != bytes.len() - 4 {
         return refuse(2, 0);
     }
-    let mut reader = Reader { bytes, at: 4 };
-    reader.number(1, 1, 3)?;
-    let predicates = reader.number(1, MOST_PREDICATES as u8, 4)?;
+    let mut reader = Reader { bytes, at: 4, version: Version::One };
+    let number = reader.byte(0, u8::MAX, 3)?;
+    reader.version = match Version::of(number as u16) {
+        Some(version) if versions.contains(&version) => version,
+        _ => return refuse(3, 4),
+    };
+    let predicates = reader.predicate(1, most_predicates.min(reader.version.most_predicates()), 4)?;
     let mut arities = Vec::with_capacity(predicates as usize);
     for _ in 0..predicates {
-        arities.push(reader.number(1, 4, 4)?);
+        arities.push(reader.byte(1, 4, 4)?);
     }
-    let count = reader.number(0, MOST_RULES as u8, 5)?;
+    let count = reader.byte(0, MOST_RULES as u8, 5)?;
     let mut rules = Vec::with_capacity(count as usize);
     for _ in 0..count {
         rules.push(reader.rule(&arities)?);
@@ -145,13 +201,18 @@ pub fn read(bytes: &[u8]) -> Result<Book, Refusal> {
     if reader.at < bytes.len() {
         return refuse(10, reader.at);
     }
-    Ok(Book { arities, rules })
+    Ok(Book { version: reader.version, arities, rules })
 }
 
-fn write_atoms(atoms: &[Atom], out: &mut Vec<u8>) {
+/// The last `width` of a number's two bytes.
+pub fn put(n: u16, width: usize, out: &mut Vec<u8>) {
+    out.extend_from_slice(&n.to_be_bytes()[2 - width..]);
+}
+
+fn write_atoms(atoms: &[Atom], width: usize, out: &mut Vec<u8>) {
     out.push(atoms.len() as u8);
     for atom in atoms {
-        out.push(atom.predicate);
+        put(atom.predicate, width, out);
         out.extend_from_slice(atom.variables());
     }
 }
@@ -159,14 +220,16 @@ fn write_atoms(atoms: &[Atom], out: &mut Vec<u8>) {
 impl Book {
     /// Its bytes. Whoever builds a book by hand answers for its being well-formed: `read` tells.
     pub fn bytes(&self) -> Vec<u8> {
-        let mut out = vec![0, 0, 0, 0, 1, self.arities.len() as u8];
+        let width = self.version.width();
+        let mut out = vec![0, 0, 0, 0, self.version.number()];
+        put(self.arities.len() as u16, width, &mut out);
         out.extend_from_slice(&self.arities);
         out.push(self.rules.len() as u8);
         for rule in &self.rules {
-            write_atoms(&rule.body, &mut out);
+            write_atoms(&rule.body, width, &mut out);
             out.push(rule.disjuncts.len() as u8);
             for disjunct in &rule.disjuncts {
-                write_atoms(disjunct, &mut out);
+                write_atoms(disjunct, width, &mut out);
             }
         }
         let length = out.len() as u32 - 4;

@@ -1,6 +1,6 @@
 //! Rule sets under construction, for those who make them by hand or by lot.
 
-use crate::book::{Atom, Book, Rule};
+use crate::book::{Atom, Book, Rule, Version, MOST_RULES};
 
 /// An atom as a predicate and its variables.
 pub type Sketch<'a> = (usize, &'a [u8]);
@@ -11,6 +11,11 @@ pub struct Draft {
 }
 
 impl Draft {
+    /// Of version 2.
+    pub fn wide() -> Draft {
+        Draft { book: Book { version: Version::Two, ..Book::default() } }
+    }
+
     /// Declares a predicate.
     pub fn predicate(&mut self, arity: usize) -> usize {
         self.book.arities.push(arity as u8);
@@ -18,11 +23,11 @@ impl Draft {
     }
 
     pub fn predicates_left(&self) -> usize {
-        64usize.saturating_sub(self.book.arities.len())
+        self.book.version.most_predicates().saturating_sub(self.book.arities.len())
     }
 
     pub fn rules_left(&self) -> usize {
-        64usize.saturating_sub(self.book.rules.len())
+        MOST_RULES.saturating_sub(self.book.rules.len())
     }
 
     pub fn atom(&self, sketch: Sketch) -> Atom {
@@ -30,7 +35,7 @@ impl Draft {
         let mut variables = [0; 4];
         variables[..over.len()].copy_from_slice(over);
         assert_eq!(over.len(), self.book.arities[predicate] as usize);
-        Atom { predicate: predicate as u8, arity: over.len() as u8, variables }
+        Atom { predicate: predicate as u16, arity: over.len() as u8, variables }
     }
 
     pub fn rule(&mut self, body: &[Sketch], disjuncts: &[&[Sketch]]) {

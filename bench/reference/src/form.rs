@@ -1,18 +1,19 @@
 //! The form of a rule set (document 01: book form), as docs/DECISIONS.md lays it out: the counts of predicates and of
-//! rules, 64 rules of 106 numbers, 64 arities. A rule is the count of its disjuncts and five groups of atoms, the body
-//! first; a group is its count and four atoms of five numbers.
+//! rules, 64 rules of 106 numbers, 1,024 arities, the version, and a place that no version counts yet. A rule is the count
+//! of its disjuncts and five groups of atoms, the body first; a group is its count and four atoms of five numbers.
 
-use crate::book::{read, refuse, Atom, Refusal, Rule, MOST_PREDICATES, MOST_RULES};
+use crate::book::{put, read, refuse, Atom, Refusal, Rule, Version, MOST_RULES};
 
-pub const LENGTH: usize = 6_850;
-const RULE: usize = 106;
+pub const LENGTH: usize = 7_812;
+pub const RULE: usize = 106;
 const GROUP: usize = 21;
-const ARITIES: usize = 2 + MOST_RULES * RULE;
+pub const ARITIES: usize = 2 + MOST_RULES * RULE;
+pub const VERSION: usize = ARITIES + 1_024;
 
 fn put_group(atoms: &[Atom], form: &mut [u16]) {
     form[0] = atoms.len() as u16;
     for (k, atom) in atoms.iter().enumerate() {
-        form[1 + k * 5] = atom.predicate as u16;
+        form[1 + k * 5] = atom.predicate;
         for (i, v) in atom.variables().iter().enumerate() {
             form[2 + k * 5 + i] = *v as u16;
         }
@@ -39,6 +40,7 @@ pub fn read_form(bytes: &[u8], form: &mut [u16]) -> Result<usize, Refusal> {
     for (p, arity) in book.arities.iter().enumerate() {
         form[ARITIES + p] = *arity as u16;
     }
+    form[VERSION] = book.version.number() as u16;
     Ok(bytes.len())
 }
 
@@ -46,24 +48,38 @@ pub fn read_form(bytes: &[u8], form: &mut [u16]) -> Result<usize, Refusal> {
 struct Writer<'a> {
     form: &'a [u16],
     out: Vec<u8>,
+    version: Version,
 }
 
 impl Writer<'_> {
-    /// The form's number at `at` as the next byte if it is within `least..=most`, else refusal `number` there.
-    fn number(&mut self, at: usize, least: u16, most: u16, number: u8) -> Result<u8, Refusal> {
+    /// The form's number at `at` if it is within `least..=most`, else refusal `number` where its bytes would begin.
+    fn within(&self, at: usize, least: u16, most: u16, number: u8) -> Result<u16, Refusal> {
         let n = self.form.get(at).copied().unwrap_or(0);
         if n < least || n > most {
             return refuse(number, self.out.len());
         }
-        self.out.push(n as u8);
-        Ok(n as u8)
+        Ok(n)
+    }
+
+    /// It as the next byte.
+    fn number(&mut self, at: usize, least: u16, most: u16, number: u8) -> Result<u8, Refusal> {
+        let n = self.within(at, least, most, number)? as u8;
+        self.out.push(n);
+        Ok(n)
+    }
+
+    /// It as the next byte or two: a count of predicates, or a predicate.
+    fn predicate(&mut self, at: usize, least: usize, most: usize, number: u8) -> Result<u16, Refusal> {
+        let n = self.within(at, least as u16, most as u16, number)?;
+        put(n, self.version.width(), &mut self.out);
+        Ok(n)
     }
 
     fn group(&mut self, at: usize, arities: &[u8]) -> Result<Vec<Atom>, Refusal> {
         let count = self.number(at, 1, 4, 6)? as usize;
         let mut atoms = Vec::with_capacity(count);
         for k in 0..count {
-            let predicate = self.number(at + 1 + k * 5, 0, arities.len() as u16 - 1, 7)?;
+            let predicate = self.predicate(at + 1 + k * 5, 0, arities.len() - 1, 7)?;
             let arity = arities[predicate as usize];
             let mut variables = [0; 4];
             for (i, variable) in variables.iter_mut().enumerate().take(arity as usize) {
@@ -89,11 +105,14 @@ impl Writer<'_> {
     }
 }
 
-/// Writes the bytes of a form into the front of `out`: their count, or the first of refusals 4 to 9 that they would
-/// meet, or 1 for a list shorter than they are. A refusal leaves the list as it was.
+/// Writes the bytes of a form into the front of `out`, in the version that it states: their count, or the first of
+/// refusals 3 to 9 that they would meet, or 1 for a list shorter than they are. A refusal leaves the list as it was.
 pub fn write_form(form: &[u16], out: &mut [u8]) -> Result<usize, Refusal> {
-    let mut writer = Writer { form, out: vec![0, 0, 0, 0, 1] };
-    let predicates = writer.number(0, 1, MOST_PREDICATES as u16, 4)? as usize;
+    let Some(version) = Version::of(form.get(VERSION).copied().unwrap_or(0)) else {
+        return refuse(3, 4);
+    };
+    let mut writer = Writer { form, out: vec![0, 0, 0, 0, version.number()], version };
+    let predicates = writer.predicate(0, 1, version.most_predicates(), 4)? as usize;
     let mut arities = Vec::with_capacity(predicates);
     for p in 0..predicates {
         arities.push(writer.number(ARITIES + p, 1, 4, 4)?);

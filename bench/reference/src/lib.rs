@@ -1,9 +1,10 @@
 //! Disjunctive model-faithful acyclicity of rule sets, a second time.
 //!
-//! A TEST INSTRUMENT: nothing here is proved. It is written from document 01, C-11 and C-14 alone, by value and with hash
+//! A TEST INSTRUMENT: nothing here is proved. It is written from document 01, C-11, C-14 and C-15 alone, by value and with hash
 //! tables, to be compared with the proved library and to be the yardstick for its speed.
 //!
 //! - `book`: rule sets, their bytes, refusals 2 to 10
+//! - `convert`: from one version to the other
 //! - `draft`: rule sets under construction
 //! - `form`: the form that the library's `read` and `write` lend
 //! - `rules`: what a rule's variables say of it; Skolem functions; join plans
@@ -13,10 +14,13 @@
 //! - `stages`: the stages and the verdict
 //! - `print`: the text of an answer
 //! - `columns`: the store of an answer's records
+//! - `cases`: files of cases
 
 pub mod blocking;
 pub mod book;
+pub mod cases;
 pub mod columns;
+pub mod convert;
 pub mod draft;
 pub mod facts;
 pub mod form;
@@ -27,6 +31,6 @@ pub mod rules;
 pub mod stages;
 pub mod terms;
 
-pub use book::{read, Atom, Book, Refusal, Rule};
+pub use book::{read, Atom, Book, Refusal, Rule, Version};
 pub use print::{print, text};
 pub use stages::{check, check_at, check_into, Checked, Verdict};

@@ -1,14 +1,14 @@
 //! The text of an answer.
 
-use crate::book::{refuse, Refusal};
+use crate::book::{refuse, Refusal, LONGEST as LONGEST_BOOK};
 use crate::stages::{check_at, Checked, Verdict, DEPTHS};
 use std::fmt::Write;
 use std::path::{Path, PathBuf};
 
 /// What the program hands over of its input, at most.
-pub const HANDED: usize = 6_856;
+pub const HANDED: usize = LONGEST_BOOK + 1;
 /// The longest text: room for it is asked for whatever the answer.
-pub const LONGEST: usize = 72_767;
+pub const LONGEST: usize = 76_863;
 
 fn line(text: &mut String, word: &str, numbers: impl IntoIterator<Item = usize>) {
     text.push_str(word);

@@ -1,6 +1,7 @@
 //! The reference behind the static library's interface, so that the differential test, the benchmarks and the bindings
 //! can be tried without the proved library. `bench/run --standin` links it. A test instrument: unproved.
 
+mod books;
 mod columns;
 
 use reference::{form, Refusal, Verdict};

@@ -5,6 +5,8 @@
 //! the pointers and lengths of slices. Rust sees to it that these are right and that no two lists overlap. Functions at the
 //! root take lists of the lengths that are asked for; those of `lists` take any slices, and a short one is refusal 1.
 
+#[cfg(feature = "books")]
+pub mod books;
 #[cfg(feature = "columns")]
 pub mod columns;
 
@@ -13,11 +15,11 @@ pub const TERMS: usize = 5_130;
 /// Numbers in the facts of an answer: 2,048 records of five.
 pub const FACTS: usize = 10_240;
 /// Numbers in a form.
-pub const FORM: usize = 6_850;
-/// Bytes of the longest rule set.
-pub const BOOK: usize = 6_855;
+pub const FORM: usize = 7_812;
+/// Bytes of the longest rule set, of any version.
+pub const BOOK: usize = 9_096;
 /// Bytes of the longest text.
-pub const TEXT: usize = 72_767;
+pub const TEXT: usize = 76_863;
 
 /// How often one way down a term may meet one Skolem function; once more, and the term is cyclic. `One` is the program's.
 #[derive(Clone, Copy, PartialEq, Eq, PartialOrd, Ord, Hash, Debug, Default)]
@@ -92,12 +94,13 @@ pub fn check(book: &[u8], depth: Depth, tables: &mut Tables) -> Verdict {
     lists::check(book, depth.number(), &mut tables.terms[..], &mut tables.facts[..])
 }
 
-/// Reads a rule set into a form: the count of its bytes. A refusal leaves the form as it was.
+/// Reads a rule set of any version into a form: the count of its bytes. A refusal leaves the form as it was.
 pub fn read(book: &[u8], form: &mut [u16; FORM]) -> Result<usize, Refusal> {
     lists::read(book, form)
 }
 
-/// Writes the bytes of a form's rule set: their count. A refusal leaves the list as it was.
+/// Writes the bytes of a form's rule set, in the version that the form states (its place 7,810): their count. A refusal
+/// leaves the list as it was.
 pub fn write(form: &[u16; FORM], book: &mut [u8; BOOK]) -> Result<usize, Refusal> {
     lists::write(form, book)
 }
@@ -166,7 +169,7 @@ pub mod lists {
         })
     }
 
-    fn transfer(value: &mut usize, call: impl FnOnce(*mut usize) -> usize) -> Result<usize, Refusal> {
+    pub(crate) fn transfer(value: &mut usize, call: impl FnOnce(*mut usize) -> usize) -> Result<usize, Refusal> {
         match call(value) {
             0 => Ok(*value),
             number => Err(refusal(number, *value)),

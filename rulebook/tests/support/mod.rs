@@ -76,7 +76,10 @@ fn rule(random: &mut Random, arities: &[usize]) -> Rule {
 
 /// A book that the library reads.
 pub fn book(random: &mut Random) -> Book {
-    let predicates = random.one_of(&[1, 2, 3, 4, 5, 8, 64]);
+    let predicates = match random.below(40) {
+        0 => random.one_of(&[65, 255, 256, 257, 1_024]),
+        _ => random.one_of(&[1, 2, 3, 4, 5, 8, 64]),
+    };
     let arities: Vec<usize> = (0..predicates).map(|_| random.one_of(&[1, 1, 2, 2, 3, 4])).collect();
     let rules = match random.below(40) {
         0 => 0,
@@ -85,6 +88,14 @@ pub fn book(random: &mut Random) -> Book {
     };
     let rules = (0..rules).map(|_| rule(random, &arities)).collect();
     Book { arities, rules }
+}
+
+/// The bytes that this program writes for a book: those of version 1 if there are any, else those of version 2.
+pub fn written(bytes: &[u8]) -> Vec<u8> {
+    let book = Book::read(bytes).expect("a readable book");
+    let written = book.write().expect("a book that was read");
+    assert!(written == bytes || bytes[4] == 2 && written[4] == 1, "the same bytes, or the other version");
+    written
 }
 
 pub fn folder() -> PathBuf {

@@ -118,7 +118,9 @@ fn stores(folder: &str, out: &str) -> std::io::Result<()> {
             continue;
         }
         let mut tables = Tables::default();
-        let Verdict::Accepted { facts, terms, .. } = rulfjen::check(&std::fs::read(&path)?, rulfjen::Depth::One, &mut tables) else {
+        let Verdict::Accepted { facts, terms, .. } =
+            rulfjen::check(&std::fs::read(&path)?, rulfjen::Depth::One, &mut tables)
+        else {
             continue;
         };
         let mut store = vec![0; columns::STORE];
