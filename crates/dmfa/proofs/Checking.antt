@@ -13,8 +13,8 @@ use Rattle.model.specs.Form.{formLength, decoded, done, refusal, Reading, readi
 use Rattle.model.specs.Stages.{Verdict, accepted, cyclicAt, refused, stage, cyclicTerms, verdict}
 use Rattle.model.specs.Limits.{termsFront, factsFront}
 use Rattle.model.specs.Tables.{termRow, factRow, fronted, isDepth, checked}
-use Rattle.dmfa.specs.declared.verdict.Verdict as declared
-use Rattle.dmfa.specs.Verdict.{meant}
+use Rattle.judging.specs.declared.verdict.Verdict as declared
+use Rattle.judging.specs.Verdict.{meant}
 use Rattle.laws.proofs.Bools.{not-both, and-true}
 use Rattle.laws_stages.specs.Reached.{Reached}
 use Rattle.laws_stages.proofs.Verdict.{reached-facts-within, reached-terms-within, accepted-says, cyclicAt-says}
@@ -28,7 +28,7 @@ use Rattle.tables.proofs.Tables.{rows-length}
 use Rattle.form.specs.Places.{Held}
 use Rattle.rows.specs.Judging.{Judged, refusedWith, judged, leftBy}
 use Rattle.laws_dmfa.proofs.Judging.{shown, facts-count, terms-count, judged-shown, checked-is-judged}
-use Rattle.dmfa.specs.Judging.{answerOf}
+use Rattle.judging.specs.Judging.{answerOf}
 use Rattle.dmfa.proofs.Fronts.{flat-rows}
 
 -- an answer shows at most 513 terms and 2,048 facts

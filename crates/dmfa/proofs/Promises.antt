@@ -27,8 +27,8 @@ use Rattle.laws_tables.proofs.Courses.{Course, short, shallow, faulty, judged, 
 use Rattle.laws_tables.proofs.Spelled.{Spells}
 use Rattle.laws_tables.proofs.Checked.{checked-accepted-spelled, checked-cyclic-spelled, checked-cyclic-shown, checked-kept, checked-same, checked-deeper}
 use Rattle.laws_demand.proofs.OfCheck.{demand-3-of-check}
-use Rattle.dmfa.specs.Verdict.{meant}
-use Rattle.dmfa.specs.declared.verdict.Verdict.{Verdict}
+use Rattle.judging.specs.Verdict.{meant}
+use Rattle.judging.specs.declared.verdict.Verdict.{Verdict}
 use Rattle.dmfa.specs.Promises.{Checks, listedTerms, listed, shown, Demand1, HoldsStage, Shown, Demand2, Promised}
 
 -- what `left` puts into the tables

@@ -1,3 +1,2 @@
-pub mod Verdict
-pub mod Judging
+pub mod Checking
 pub mod Promises

@@ -21,8 +21,8 @@ use Rattle.model.specs.Demand.{Demand3}
 use Rattle.laws.specs.Lists.{Distinct}
 use Rattle.laws_stages.specs.Says.{Says}
 use Rattle.laws_tables.specs.Lent.{Fronts, Short, Depth, Early, Late}
-use Rattle.dmfa.specs.Verdict.{meant}
-use Rattle.dmfa.specs.declared.verdict.Verdict.{Verdict}
+use Rattle.judging.specs.Verdict.{meant}
+use Rattle.judging.specs.declared.verdict.Verdict.{Verdict}
 
 -- the contract: what `check` answers and leaves, given bytes, a depth and two tables
 abbrev pub Checks : ℕ → List ℕ → List ℕ → List ℕ → Verdict → List ℕ → List ℕ → Type 0

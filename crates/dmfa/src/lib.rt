@@ -1,13 +1,10 @@
-// The check: stages, verdict and the caller's tables. The contracts cite the definitions over rows of `rows`.
+// The check: the answer on a rule set's bytes, and the caller's tables. The contracts cite specs/Checking and specs/Promises.
 mod caller_tables;
-mod critical;
-mod judging;
-pub mod verdict;
 
 use crate::caller_tables::fill;
-use crate::judging::Judgement;
-use crate::judging::judge;
-use crate::verdict::Verdict;
+use judging::Judgement;
+use judging::judge;
+use judging::verdict::Verdict;
 use reader::Transfer;
 ghost use mathlib.Core.Path.{_≡_};
 ghost use Prim.Native.Nat.{_≤_};
@@ -18,7 +15,7 @@ ghost use Rattle.form.specs.Places.{Held};
 ghost use Rattle.tables.specs.TermHash.{KeptTerms};
 ghost use Rattle.facts.specs.Hashed.{Kept};
 ghost use Rattle.dmfa.specs.Promises.{Checks};
-ghost use Rattle.dmfa.specs.Judging.{smallRoom, Checkable, Leaves, CheckedAs};
+ghost use Rattle.dmfa.specs.Checking.{smallRoom, Checkable, Leaves, CheckedAs};
 
 // The caller's tables begin with 513 terms, those of a stage and a cyclic one, and with 2,048 facts.
 const TERMS_FRONT: usize = 5130;

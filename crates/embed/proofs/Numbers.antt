@@ -4,8 +4,8 @@ use mathlib.Core.List.{List}
 use Prim.Native.Nat.{ℕ}
 use Rattle.model.specs.Form.{Transfer}
 use Rattle.model.specs.Stages.{Verdict}
-use Rattle.dmfa.specs.declared.verdict.Verdict as Declared
-use Rattle.dmfa.specs.Verdict.{meant}
+use Rattle.judging.specs.declared.verdict.Verdict as Declared
+use Rattle.judging.specs.Verdict.{meant}
 use Rattle.embed.specs.Numbers.{ofChecked, verdictNumber, verdictValues, transferred, transferNumber, transferValue}
 
 -- the numbers of a verdict that is of a known case

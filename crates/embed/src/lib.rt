@@ -1,6 +1,6 @@
 // The functions of the static library (bindings/c/rulfjen.h): numbers and lists cross, and nothing else. The contracts equate all that a
 // call returns and leaves behind with the definitions, by the numbers of specs/Numbers.
-use dmfa::verdict::Verdict;
+use judging::verdict::Verdict;
 use reader::Transfer;
 use report::FACTS_FRONT;
 use report::TERMS_FRONT;
@@ -11,7 +11,7 @@ ghost use Rattle.model.specs.Limits.{termsFront, factsFront};
 ghost use Rattle.model.specs.Tables.{checked};
 ghost use Rattle.reader.specs.Transfer.{transferOf};
 ghost use Rattle.report.specs.Printing.{printing};
-ghost use Rattle.dmfa.specs.Verdict.{meant};
+ghost use Rattle.judging.specs.Verdict.{meant};
 ghost use Rattle.embed.specs.Numbers.{ofChecked, ofReading, ofWriting, ofPrinting, verdictNumber, verdictValues, transferNumber, transferValue};
 
 // The number that is returned for an answer, and the one that is left in `value`.

@@ -21,9 +21,9 @@ use Rattle.laws_tables.proofs.Recorded.{Recorded, terms-begin, facts-begin}
 use Rattle.laws_tables.proofs.Fronts.{Within}
 use Rattle.laws_tables.proofs.Courses.{Course, short, shallow, faulty, judged, course, left-verdict}
 use Rattle.laws_tables.proofs.Spelled.{Held, accepted-held, cyclicAt-held}
-use Rattle.dmfa.specs.declared.verdict.Verdict.{Verdict}
-use Rattle.dmfa.specs.declared.verdict.Verdict.the-variants.{Accepted, Cyclic, Refused}
-use Rattle.dmfa.specs.Verdict.{meant}
+use Rattle.judging.specs.declared.verdict.Verdict.{Verdict}
+use Rattle.judging.specs.declared.verdict.Verdict.the-variants.{Accepted, Cyclic, Refused}
+use Rattle.judging.specs.Verdict.{meant}
 use Rattle.text.specs.Legible.{LegibleTerms, LegibleFacts, Legible}
 use Rattle.text.proofs.Rows.{row-at, row-head, fewer-terms}
 use Rattle.report.proofs.Arities.{Declares}

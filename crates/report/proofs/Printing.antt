@@ -15,8 +15,8 @@ use Rattle.laws_tables.specs.Lent.{Depth}
 use Rattle.laws_tables.proofs.Courses.{is-depth, not-depth}
 use Rattle.reader.specs.Transfer.{transferOf}
 use Rattle.reader.specs.declared.Transfer.{Transfer}
-use Rattle.dmfa.specs.declared.verdict.Verdict.{Verdict}
-use Rattle.dmfa.specs.Verdict.{meant}
+use Rattle.judging.specs.declared.verdict.Verdict.{Verdict}
+use Rattle.judging.specs.Verdict.{meant}
 use Rattle.tables.specs.Rows.{written}
 use Rattle.text.specs.Writing.{Room, Writes}
 use Rattle.text.specs.Legible.{Legible}

@@ -11,7 +11,7 @@ use Rattle.model.specs.Tables.{Checked, isDepth, checked}
 use Rattle.model.specs.Text.{textOf}
 use Rattle.reader.specs.Transfer.{transferOf}
 use Rattle.reader.specs.declared.Transfer as answers
-use Rattle.dmfa.specs.declared.verdict.Verdict.{Verdict}
+use Rattle.judging.specs.declared.verdict.Verdict.{Verdict}
 use Rattle.dmfa.specs.Promises.{Checks}
 
 -- so many bytes have room for every text

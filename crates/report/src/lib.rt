@@ -1,13 +1,13 @@
 // `print`: the check and the text of its answer, for bytes of a rule set. The contracts cite specs/Printing.
-use dmfa::verdict::Verdict;
 use form::layout::ARITIES;
 use form::layout::LENGTH;
 use form::layout::VERSION;
+use judging::verdict::Verdict;
 use reader::Transfer;
 ghost use Prim.Native.Nat.{_≤_};
 ghost use lib.ListN.{length};
 ghost use Rattle.model.specs.Text.{textOf};
-ghost use Rattle.dmfa.specs.Verdict.{meant};
+ghost use Rattle.judging.specs.Verdict.{meant};
 ghost use Rattle.text.specs.Writing.{Writes};
 ghost use Rattle.report.specs.Printing.{Answer, textRoom, Prints};
 

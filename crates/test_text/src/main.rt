@@ -1,10 +1,10 @@
 // Writes the texts of an accepted answer, a cyclic one and refusals, over small tables.
-use dmfa::verdict::Verdict;
+use judging::verdict::Verdict;
 use libc::STDOUT_FILENO;
 ghost use Prim.Native.Nat.{_≤_};
 ghost use lib.ListN.{length};
 ghost use Rattle.model.specs.Text.{text};
-ghost use Rattle.dmfa.specs.Verdict.{meant};
+ghost use Rattle.judging.specs.Verdict.{meant};
 ghost use Rattle.text.specs.Legible.{Legible};
 
 // Numbers of four and five digits, for a table and for an answer.

@@ -2,8 +2,8 @@
 use mathlib.Core.List.{List}
 use Prim.Native.Nat.{ℕ, suc, _+_, _*_, _≤_, _<_}
 use lib.ListN.{length, getD}
-use Rattle.dmfa.specs.declared.verdict.Verdict.{Verdict}
-use Rattle.dmfa.specs.declared.verdict.Verdict.the-variants.{Accepted, Cyclic, Refused}
+use Rattle.judging.specs.declared.verdict.Verdict.{Verdict}
+use Rattle.judging.specs.declared.verdict.Verdict.the-variants.{Accepted, Cyclic, Refused}
 
 -- the first t rows of a table of terms
 pub record LegibleTerms (terms : List ℕ) (t : ℕ) : Type 0 where

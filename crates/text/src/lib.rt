@@ -2,13 +2,13 @@
 mod records;
 mod words;
 
-use dmfa::verdict::Verdict;
+use judging::verdict::Verdict;
 use records::write_header;
 use records::write_loop_line;
 use records::write_records;
 use records::write_refusal;
 ghost use Rattle.model.specs.Text.{text};
-ghost use Rattle.dmfa.specs.Verdict.{meant};
+ghost use Rattle.judging.specs.Verdict.{meant};
 ghost use Rattle.text.specs.Writing.{Room, Writes};
 ghost use Rattle.text.specs.Legible.{Legible};
 

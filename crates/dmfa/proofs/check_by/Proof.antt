@@ -3,7 +3,7 @@ use mathlib.Core.Path.{refl, subst}
 use Prim.Native.Nat.{_≤_}
 use native.Mathlib.Omega.{arith}
 use lib.ListN.{length}
-use Rattle.dmfa.specs.Judging.{JudgedAs}
+use Rattle.judging.specs.Judging.{JudgedAs}
 use Rattle.dmfa.proofs.Checking.{answer-few, answer-left}
 use borrow.Author.Needs.{needs}
 use Rattle.dmfa.proofs.check_by.Statement.{statement}

@@ -9,7 +9,7 @@ use Rattle.form_functions.specs.Functions.{places, Numbered}
 use Rattle.form.proofs.Places.{few-rules}
 use Rattle.form_functions.proofs.Numbering.{numbering-numbered}
 use Rattle.rows.specs.Judging.{judged, leftBy}
-use Rattle.dmfa.specs.Judging.{smallRoom, CheckedAs}
+use Rattle.dmfa.specs.Checking.{smallRoom, CheckedAs}
 use Rattle.dmfa.specs.declared.Checked.{Checked}
 use borrow.Author.Needs.{needs}
 use Rattle.dmfa.proofs.check_form.Statement.{statement}

@@ -3,7 +3,7 @@ use mathlib.Core.Path.{subst}
 use native.Mathlib.Omega.{arith}
 use Rattle.terms.proofs.Kept.{kept-terms-none}
 use Rattle.facts.proofs.Kept.{kept-none}
-use Rattle.dmfa.specs.Judging.{CheckedAs}
+use Rattle.dmfa.specs.Checking.{CheckedAs}
 use Rattle.dmfa.specs.declared.Checked.{Checked}
 use borrow.Author.Needs.{needs}
 use Rattle.dmfa.proofs.check_large.Statement.{statement}

@@ -1,6 +1,6 @@
 -- `embed::rulfjen_check` meets its contract: what `check` answers and leaves, by the numbers of its verdict. Assumes nothing.
 use mathlib.Core.Path.{ap, _∙_}
-use Rattle.dmfa.specs.Verdict.{meant}
+use Rattle.judging.specs.Verdict.{meant}
 use Rattle.embed.specs.Numbers.{ofChecked}
 use Rattle.embed.proofs.Numbers.{check-left}
 use borrow.Author.Needs.{needs}

@@ -6,8 +6,8 @@ use Prim.Native.Nat.{ℕ, suc, _+_}
 use native.Mathlib.Omega.{arith}
 use lib.ListN.{length, length-append}
 use Rattle.model.specs.Text.{line, acceptedWord, cyclicWord, refusedWord, loopWord, termNumbers, records, text}
-use Rattle.dmfa.specs.declared.verdict.Verdict.{Verdict}
-use Rattle.dmfa.specs.Verdict.{meant}
+use Rattle.judging.specs.declared.verdict.Verdict.{Verdict}
+use Rattle.judging.specs.Verdict.{meant}
 use Rattle.text.specs.Legible.{LegibleTerms, LegibleFacts, Legible}
 use Rattle.text.proofs.Writing.{writes-append}
 use Rattle.text.proofs.Rows.{fewer-terms}
