@@ -20,7 +20,7 @@ use Rattle.converter_model.proofs.Same.{Alike, checked-alike, text-alik
 
 -- the version that a rule set has
 same-version : (b : RuleSet) (v : ℕ) → b .version ≡ v → versioned v b ≡ b
-same-version b v e = λ t. record { version = sym e t; arities = b .arities; rules = b .rules }
+same-version b v e = λ t. record { version = sym e t; fixed = b .fixed; arities = b .arities; rules = b .rules }
 
 module _ (from to : ℕ) (known : Version to) (bytes out : List ℕ) (n : ℕ) (e : converting from to bytes out .answer ≡ done n) where
   c : Converted from to bytes out n

@@ -42,6 +42,7 @@ versioned-well-formed {version = version} w v few =
     record {
       first = v .first;
       last = v .last;
+      unnamed = w .unnamed;
       some = w .some;
       few = omega (arith, narrow-most version);
       arities = w .arities;
@@ -105,7 +106,7 @@ opened bs b i e =
     let (arities, l, third, e3) = good-parts (many n (byte bs 1 4 4) k) _ b i e2 in
     let (m, o, fourth, e4) = good-parts (byte bs 0 64 5 l) _ b i e3 in
     let (rs, q, fifth, e5) = good-parts (many m (rule bs (signed v arities)) o) _ b i e4 in
-    let same : record { version = v; arities = arities; rules = rs } ≡ b = ended q (length bs) _ b i e5 in
+    let same : record { version = v; fixed = 0; arities = arities; rules = rs } ≡ b = ended q (length bs) _ b i e5 in
     let count : n ≡ length arities = sym (many-length n (byte bs 1 4 4) k arities l third) in
     subst (Opened bs) same (record { place = j; behind = k; version = first; count = second ∙ ap (λ (x : ℕ). good x k) count })
   where

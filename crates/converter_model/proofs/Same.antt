@@ -10,7 +10,7 @@ use lib.Seq.{take-all}
 use Rattle.model.specs.Limits.{bytesLimit, inputLimit, programDepth, termsFront, factsFront}
 use Rattle.model.specs.Rules.{RuleSet, entries}
 use Rattle.model.specs.Format.{Parsed, good, bad, read}
-use Rattle.model.specs.Stages.{Stage, stage, grown, outputs, cyclicTerms, Verdict, accepted, cyclicAt, refused, verdict}
+use Rattle.model.specs.Stages.{Stage, leaves, stage, grown, outputs, cyclicTerms, Verdict, accepted, cyclicAt, refused, verdict}
 use Rattle.model.specs.Tables.{Checked, recorded, left, isDepth, checked}
 use Rattle.model.specs.Text.{text, declared, textOf, printed}
 use Rattle.laws_tables.proofs.Printed.{declared-good}
@@ -18,12 +18,12 @@ use Rattle.converter_model.specs.Converter.{versioned}
 
 module _ (version : ℕ) (b : RuleSet) where
   pub stage-versioned : (n : ℕ) → stage (versioned version b) n ≡ stage b n
-  unfolding stage entries
+  unfolding stage leaves entries
   stage-versioned zero = refl
   stage-versioned (suc n) = ap (λ (s : Stage). grown s (outputs (entries b) s)) (stage-versioned n)
 
   pub verdict-versioned : (d : ℕ) → verdict d (versioned version b) ≡ verdict d b
-  unfolding verdict entries stage
+  unfolding verdict entries stage leaves
   verdict-versioned d = refl
 
   pub left-versioned : (d : ℕ) (v : Verdict) (terms₀ facts₀ : List ℕ) → left d (versioned version b) v terms₀ facts₀ ≡ left d b v terms₀ facts₀

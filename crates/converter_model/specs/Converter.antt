@@ -11,7 +11,7 @@ use Rattle.model.specs.Form.{done, refusal, Writing}
 
 -- the same rules over the same predicates
 abbrev pub versioned : ℕ → RuleSet → RuleSet
-versioned version b = record { version = version; arities = b .arities; rules = b .rules }
+versioned version b = record { version = version; fixed = b .fixed; arities = b .arities; rules = b .rules }
 
 -- the version's byte, and a count of predicates that version 1 has too
 unfoldable pub opening : ℕ → List ℕ → Parsed ℕ

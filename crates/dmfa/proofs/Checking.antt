@@ -42,7 +42,7 @@ module _ (d : ℕ) (b : RuleSet) (w : WellFormed b) where
   unfolding shown
   few-cyclicAt n k e r f t =
       let p : n - 1 ≡ k = omega arith in
-      let h = reached-terms-within b k r in
+      let h = reached-terms-within b w k r in
       let g = reached-facts-within b w k r in
       let ts = stage b (n - 1) .terms in
       let us = take 1 (cyclicTerms d (entries b) (stage b (n - 1))) in
@@ -58,7 +58,7 @@ module _ (d : ℕ) (b : RuleSet) (w : WellFormed b) where
   few-shown (accepted n f t) e =
       let r = accepted-says d b w e .reached in
       record {
-        terms = omega (arith, terms-count b n, reached-terms-within b n r);
+        terms = omega (arith, terms-count b n, reached-terms-within b w n r);
         facts = omega (arith, facts-count b n, reached-facts-within b w n r);
       }
   few-shown (cyclicAt n f t) e = let l = cyclicAt-says d b w e in few-cyclicAt n (l .last) (l .next) (l .reached) f t

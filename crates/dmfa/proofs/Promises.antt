@@ -1,6 +1,6 @@
 -- The contract of `check` gives demands 1, 2 and 3, and these say no less than the contract. Assumes nothing.
 use mathlib.Core.Path.{_≡_, refl, sym, ap, _∙_, subst}
-use mathlib.Core.Logic.{inl, inr}
+use mathlib.Core.Logic.{_⊎_, inl, inr}
 use mathlib.Core.List.{List, [], _∷_, _++_}
 use Prim.Native.Nat.{ℕ, suc, _-_, _≤_}
 use native.Mathlib.Omega.{arith}
@@ -17,7 +17,7 @@ use Rattle.model.specs.Spelled.{termAt}
 use Rattle.model.specs.Demand.{Demand3}
 use Rattle.laws.specs.Lists.{Distinct}
 use Rattle.laws_format.proofs.Bytes.{read-well-formed}
-use Rattle.laws_stages.specs.Says.{Cause, large, many, facts, terms, Says}
+use Rattle.laws_stages.specs.Says.{Cause, large, many, facts, terms, Refused, Crowded, Says}
 use Rattle.laws_stages.proofs.Growth.{facts-distinct, terms-distinct}
 use Rattle.laws_stages.proofs.Listed.{shown-first}
 use Rattle.laws_stages.proofs.Verdict.{verdict-says, says-verdict, cyclicAt-says}
@@ -185,6 +185,10 @@ cause-late (many h i) = (omega arith, omega arith)
 cause-late (facts h i j l) = (omega arith, omega arith)
 cause-late (terms h i j l m) = (omega arith, omega arith)
 
+refused-late : {d : ℕ} {b : RuleSet} {n q : ℕ} → Refused d b n q ⊎ Crowded b n q → Late n
+refused-late (inl r) = cause-late (r .cause)
+refused-late (inr c) = let e = c .number in (omega arith, omega arith)
+
 module _ (d : ℕ) (bytes terms₀ facts₀ : List ℕ) (r : Verdict) (ts fs : List ℕ) (p : Promised d bytes terms₀ facts₀ r ts fs) where
   abbrev gave : Checked
   gave = record { verdict = meant r; terms = ts; facts = fs }
@@ -210,7 +214,7 @@ module _ (d : ℕ) (bytes terms₀ facts₀ : List ℕ) (r : Verdict) (ts fs : L
         ∙ recorded-is (cyclicAt (suc m) f t) (stage b m) (shown t ts ∷ []) terms₀ facts₀
         ∙ equal w′ (h .term-records) (h .fact-records)
     left-gave (refused n q) w s =
-        let (x, y) = p .demand1 .zeroed n q w (cause-late (s .cause)) in
+        let (x, y) = p .demand1 .zeroed n q w (refused-late s) in
         left-refused d b n q terms₀ facts₀ ∙ equal w x y
 
   -- so nothing of the contract is lost

@@ -20,7 +20,7 @@ use Rattle.model.specs.Rules.{Atom, Rule, names, variablesOf, inBody, universal
 use Rattle.laws.proofs.Bools.{case, not-both, is-false}
 use Rattle.laws.proofs.Lists.{keep-yes, keep-no, mem-keep, keep-mem, member-mem, mem-member, keep-agree, any-append}
 use Rattle.laws.specs.Lists.{rising}
-use Rattle.laws.proofs.Rules.{mem-names, variablesOf-mem, names-mem}
+use Rattle.laws.proofs.Rules.{mem-names, inBody-member, variablesOf-mem, names-mem}
 use Rattle.model.specs.WellFormed.{WellFormedAtoms}
 use Rattle.form_variables.specs.Sets.{setOf, has, elements}
 use Rattle.form.specs.Places.{atomPlace, GroupAt, atomOf, groupOf}
@@ -170,8 +170,8 @@ unfolding universal
 has-universal r v h = has-setOf (keep (inBody r) names) v ∙ member-keep (inBody r) v h
 
 pub universal-set : (r : Rule) → setOf (variablesOf (r .body)) < 256 → setOf (variablesOf (r .body)) ≡ setOf (universal r)
-unfolding universal inBody
-universal-set r h = set-of-test (setOf (variablesOf (r .body))) (inBody r) h (λ v l. has-setOf (variablesOf (r .body)) v)
+unfolding universal
+universal-set r h = set-of-test (setOf (variablesOf (r .body))) (inBody r) h (λ v l. has-setOf (variablesOf (r .body)) v ∙ sym (inBody-member r v l))
 
 pub frontier-set : (r : Rule) → bitAnd (setOf (universal r)) (setOf (collect variablesOf (r .head))) ≡ setOf (frontier r)
 unfolding frontier universal

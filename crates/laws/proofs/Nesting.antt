@@ -10,7 +10,7 @@ use native.Mathlib.Decide.{ℕ-discrete, decLt}
 use lib.Dec.{eqb, ltb}
 use borrow.Author.Tests.{ltb-true, lt-ltb, eq-eqb, ne-eqb}
 use Rattle.model.specs.Lists.{any, member}
-use Rattle.model.specs.Term.{Term, Terms, star, constant, apart, fresh, skolem, none, more, list, functions, functionsAll, meeting, nesting, nestingAny, cyclic}
+use Rattle.model.specs.Term.{Term, Terms, star, constant, fixed, apart, fresh, skolem, none, more, list, functions, functionsAll, meeting, nesting, nestingAny, cyclic}
 use Rattle.model.specs.Published.{repeats, repeatsAny}
 use Rattle.laws.proofs.Bools.{not-both, or-true, or-left, or-right, both-ways}
 use Rattle.laws.proofs.Lists.{any-mem, mem-any, any-append, member-mem}
@@ -57,6 +57,7 @@ mutual
   pub functions-met : (f : ℕ) (t : Term) → member f (functions t) ≡ ltb 0 (nesting f t)
   functions-met f star = refl
   functions-met f (constant c) = refl
+  functions-met f (fixed c) = refl
   functions-met f (apart p) = refl
   functions-met f (fresh t v) = refl
   functions-met f (skolem g ts) = ap (λ (b : Bool). eqb f g || b) (functionsAll-met f ts) ∙ sym (meeting-met f g (nestingAny f ts))
@@ -124,6 +125,7 @@ mutual
   repeats-way : (t : Term) → repeats t ≡ true → (f : ℕ) × (1 < nesting f t)
   repeats-way star h = not-both false h refl
   repeats-way (constant c) h = not-both false h refl
+  repeats-way (fixed c) h = not-both false h refl
   repeats-way (apart p) h = not-both false h refl
   repeats-way (fresh t v) h = not-both false h refl
   repeats-way (skolem f ts) h =
@@ -145,6 +147,7 @@ mutual
   way-repeats : (f : ℕ) (t : Term) → 1 < nesting f t → repeats t ≡ true
   way-repeats f star h = absurd (omega arith)
   way-repeats f (constant c) h = absurd (omega arith)
+  way-repeats f (fixed c) h = absurd (omega arith)
   way-repeats f (apart p) h = absurd (omega arith)
   way-repeats f (fresh t v) h = absurd (omega arith)
   way-repeats f (skolem g ts) h = go (λ l. wayAny-repeats f ts l) (ℕ-discrete g f)

@@ -7,7 +7,7 @@ use Prim.Native.Nat.{ℕ, suc, _+_, _≤_}
 use native.Mathlib.Omega.{arith}
 use lib.Dec.{eqb, ltb}
 use lib.ListN.{length}
-use borrow.Author.Tests.{ltb-true, eqb-true, not-true}
+use borrow.Author.Tests.{ltb-true, lt-ltb, eqb-true, not-true}
 use Rattle.model.specs.Lists.{any, keep, member, all}
 use Rattle.model.specs.Rules.{Atom, Rule, RuleSet, Disjunct, Entry, names, variablesOf, inBody, universal, frontier, existential, disjunctsFrom, countSkolem, entriesFrom, entries, existentialFree, datalog, blockable}
 use Rattle.laws.specs.Lists.{Distinct, none, one, rising}
@@ -42,11 +42,19 @@ keep-distinct p (one {x = x} {xs = xs} n d) = go (keep-distinct p d) (case (p x)
 
 pub inBody-mem : (r : Rule) (v : ℕ) → inBody r v ≡ true → List·Memᴰ v (variablesOf (r .body))
 unfolding inBody
-inBody-mem r v h = member-mem v (variablesOf (r .body)) h
+inBody-mem r v h = member-mem v (variablesOf (r .body)) (and-true (ltb v 8) (member v (variablesOf (r .body))) h .1)
 
-pub mem-inBody : (r : Rule) {v : ℕ} → List·Memᴰ v (variablesOf (r .body)) → inBody r v ≡ true
+pub inBody-small : (r : Rule) (v : ℕ) → inBody r v ≡ true → v ≤ 7
 unfolding inBody
-mem-inBody r m = mem-member m
+inBody-small r v h = let k = ltb-true v 8 (and-true (ltb v 8) (member v (variablesOf (r .body))) h .0) in omega arith
+
+pub inBody-member : (r : Rule) (v : ℕ) → v ≤ 7 → inBody r v ≡ member v (variablesOf (r .body))
+unfolding inBody
+inBody-member r v h = ap (λ (b : Bool). b && member v (variablesOf (r .body))) (lt-ltb v 8 (omega arith))
+
+pub mem-inBody : (r : Rule) {v : ℕ} → v ≤ 7 → List·Memᴰ v (variablesOf (r .body)) → inBody r v ≡ true
+unfolding inBody
+mem-inBody r {v} h m = true-and (ltb v 8) (member v (variablesOf (r .body))) (lt-ltb v 8 (omega arith)) (mem-member m)
 
 pub mem-variablesOf : {v : ℕ} {a : Atom} {as' : List Atom} → List·Memᴰ a as' → List·Memᴰ v (a .variables) → List·Memᴰ v (variablesOf as')
 unfolding variablesOf
@@ -103,6 +111,10 @@ existential-mem r d {v} m =
     let (k, e) = keep-mem (λ (v : ℕ). member v (variablesOf d) && not (inBody r v)) names m in
     let (i, j) = and-true (member v (variablesOf d)) (not (inBody r v)) e in
     (member-mem v (variablesOf d) i, not-true (inBody r v) j)
+
+pub existential-small : (r : Rule) (d : List Atom) {v : ℕ} → List·Memᴰ v (existential r d) → v ≤ 7
+unfolding existential
+existential-small r d m = names-mem (keep-mem (λ (v : ℕ). member v (variablesOf d) && not (inBody r v)) names m .0)
 
 pub mem-existential : (r : Rule) (d : List Atom) {v : ℕ} → v ≤ 7 → List·Memᴰ v (variablesOf d) → inBody r v ≡ false → List·Memᴰ v (existential r d)
 unfolding existential

@@ -7,17 +7,18 @@ use native.Mathlib.Nat.{pow-zero, pow-suc, one-mul}
 use lib.ListN.{length, length-append, length-map}
 use lib.Pow.{pow-add}
 use Rattle.model.specs.Lists.{collect}
-use Rattle.model.specs.Term.{Term, Terms, star, constant, apart, fresh, skolem, none, more, starred, starredAll, stars, starsAll}
+use Rattle.model.specs.Term.{Term, Terms, star, constant, fixed, apart, fresh, skolem, none, more, starred, starredAll, stars, starsAll}
 use Rattle.model.specs.Triggers.{Fact}
 use Rattle.model.specs.Demand.{starredFact, starsOf, bound}
 use Rattle.laws.specs.Lists.{Distinct}
 use Rattle.laws.proofs.Lists.{mem-map, mem-collect}
 use Rattle.laws.proofs.Counting.{distinct-length, collect-length}
 
--- a term whose leaves are constants of a list
+-- a term whose leaves are constants of a list, and constants of the rules
 mutual
   pub data Built (cs : List Term) : Term → Type 0 where
     leaf : {c : ℕ} → List·Memᴰ (constant c) cs → Built cs (constant c)
+    known : {c : ℕ} → Built cs (fixed c)
     node : {f : ℕ} {ts : Terms} → BuiltAll cs ts → Built cs (skolem f ts)
 
   pub data BuiltAll (cs : List Term) : Terms → Type 0 where
@@ -29,6 +30,7 @@ unfoldable mutual
   pub termInstances : Term → List Term → List Term
   termInstances star cs = cs
   termInstances (constant c) cs = constant c ∷ []
+  termInstances (fixed c) cs = fixed c ∷ []
   termInstances (apart p) cs = apart p ∷ []
   termInstances (fresh t v) cs = fresh t v ∷ []
   termInstances (skolem f ts) cs = map (skolem f) (termsInstances ts cs)
@@ -58,6 +60,7 @@ mutual
   pub termInstances-length : (t : Term) (cs : List Term) → length (termInstances t cs) ≡ length cs ^ stars t
   termInstances-length star cs = sym (pow-one (length cs))
   termInstances-length (constant c) cs = sym (pow-zero (length cs))
+  termInstances-length (fixed c) cs = sym (pow-zero (length cs))
   termInstances-length (apart p) cs = sym (pow-zero (length cs))
   termInstances-length (fresh t v) cs = sym (pow-zero (length cs))
   termInstances-length (skolem f ts) cs = length-map (termsInstances ts cs) (skolem f) ∙ termsInstances-length ts cs
@@ -90,6 +93,7 @@ mutual
 
   pub mem-termInstances : {cs : List Term} {t : Term} → Built cs t → List·Memᴰ t (termInstances (starred t) cs)
   mem-termInstances (leaf m) = m
+  mem-termInstances known = List·Memᴰ·head refl
   mem-termInstances (node {f = f} bs) = mem-map (skolem f) (mem-termsInstances bs)
 
   pub mem-termsInstances : {cs : List Term} {ts : Terms} → BuiltAll cs ts → List·Memᴰ ts (termsInstances (starredAll ts) cs)

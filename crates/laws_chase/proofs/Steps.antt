@@ -1,26 +1,26 @@
 -- What every filling keeps: its facts are distinct and built from the instance's constants, and each step has added a fact. Hence the bound on
 -- the steps where a list has the facts' starred images. Assumes nothing.
 use mathlib.Core.Path.{_≡_, refl, sym, subst}
-use mathlib.Core.Bool.{true, false}
+use mathlib.Core.Bool.{true, false, not}
 use mathlib.Core.Logic.{_⊎_, inl, inr, ⊎-elim}
 use mathlib.Core.List.{List, [], _∷_, map, List·Memᴰ, List·Memᴰ·head, List·Memᴰ·tail, List·Memᴰ·not-nil, List·Memᴰ·cases-cons}
 use Prim.Native.Nat.{ℕ, _+_, _≤_}
 use native.Mathlib.Omega.{arith}
 use lib.ListN.{length}
-use Rattle.model.specs.Lists.{extend}
-use Rattle.model.specs.Term.{Term, constant, same, terms}
+use Rattle.model.specs.Lists.{keep, extend}
+use Rattle.model.specs.Term.{Term, constant, fixed, same, isFixed, terms}
 use Rattle.model.specs.Rules.{Rule, RuleSet, Disjunct, Entry, inBody, frontier}
-use Rattle.model.specs.Triggers.{Fact, sameFact, termsOf, instantiate, headTerm, headFacts}
+use Rattle.model.specs.Triggers.{Fact, sameFact, termsOf, headTerm, headFacts}
 use Rattle.model.specs.Chase.{Attempt, State, attempt, chase, initial}
-use Rattle.model.specs.Demand.{starredFact, constants, bound, Constants, none, more, Over}
+use Rattle.model.specs.Demand.{starredFact, constants, bound, Constants, none, more, known, Over}
 use Rattle.laws.specs.Lists.{Distinct, none as distinct-none}
 use Rattle.laws.proofs.Bools.{case}
-use Rattle.laws.proofs.Lists.{mem-map, map-mem, extend-distinct, extend-mem, extend-right, extend-left}
+use Rattle.laws.proofs.Lists.{map-mem, mem-keep, extend-distinct, extend-mem, extend-right, extend-left}
 use Rattle.laws.proofs.Terms.{same-decides}
-use Rattle.laws.proofs.Facts.{sameFact-decides, mem-termsOf}
-use Rattle.laws.proofs.Rules.{entries-mem, inBody-mem, variablesOf-mem, frontier-mem, universal-mem}
-use Rattle.laws.proofs.Triggers.{Loaded, headTerm-universal, headTerm-existential, headFacts-mem}
-use Rattle.laws_chase.proofs.Instances.{Built, leaf, node, BuiltAll, end, next, BuiltFact, facts-bounded}
+use Rattle.laws.proofs.Facts.{sameFact-decides, mem-termsOf, termsOf-mem}
+use Rattle.laws.proofs.Rules.{entries-mem, frontier-mem, universal-mem}
+use Rattle.laws.proofs.Triggers.{Loaded, Value, loaded-value, instantiate-mem, headTerm-universal, headTerm-existential, headFacts-mem}
+use Rattle.laws_chase.proofs.Instances.{Built, leaf, known as built-known, node, BuiltAll, end, next, BuiltFact, facts-bounded}
 use Rattle.laws_chase.proofs.Attempts.{given, Applies, stepped, attempt-cases, attempt-steps, applies-entry, applies-disjunct, applies-loaded, step-adds}
 
 -- the facts of a disjunct are built from what the trigger's terms are built from
@@ -33,10 +33,7 @@ built-terms (t ∷ ts) h = next (h t (List·Memᴰ·head refl)) (built-terms ts 
 -- each variable of the body stands in a body atom, so its term is an argument of a fact
 built-variable : {cs : List Term} {fs : List Fact} (r : Rule) (σ : ℕ → Term) → Loaded r fs σ → ((f : Fact) → List·Memᴰ f fs → BuiltFact cs f) → (v : ℕ)
     → inBody r v ≡ true → Built cs (σ v)
-unfolding instantiate
-built-variable r σ l h v e =
-    let (a, m, k) = variablesOf-mem (r .body) (inBody-mem r v e) in
-    h (instantiate σ a) (l a m) (σ v) (mem-map σ k)
+built-variable {fs = fs} r σ l h v e = let (f, m, k) = termsOf-mem fs (loaded-value r fs σ l e) in h f m (σ v) k
 
 built-headTerm : {cs : List Term} (d : Disjunct) (σ : ℕ → Term) → ((v : ℕ) → inBody (d .rule) v ≡ true → Built cs (σ v)) → (v : ℕ) → Built cs (headTerm d σ v)
 built-headTerm {cs} d σ h v = go (case (inBody (d .rule) v))
@@ -52,11 +49,13 @@ built-headTerm {cs} d σ h v = go (case (inBody (d .rule) v))
 
 built-headFacts : {cs : List Term} (d : Disjunct) (σ : ℕ → Term) → ((v : ℕ) → inBody (d .rule) v ≡ true → Built cs (σ v)) → (f : Fact) → List·Memᴰ f (headFacts σ d)
     → BuiltFact cs f
-unfolding instantiate
 built-headFacts {cs} d σ h f m t k =
     let (a, i, e) = headFacts-mem σ d m in
-    let (v, j, q) = map-mem (headTerm d σ) (a .variables) (subst (λ (g : Fact). List·Memᴰ t (g .arguments)) e k) in
-    rw q (built-headTerm d σ h v)
+    go (instantiate-mem (headTerm d σ) a {s = t} (subst (λ (g : Fact). List·Memᴰ t (g .arguments)) e k))
+  where
+    go : {vs : List ℕ} → Value vs (headTerm d σ) t → Built cs t
+    go (inl (v, _, _, q)) = rw q (built-headTerm d σ h v)
+    go (inr (v, _, _, q)) = rw q built-known
 
 -- what every filling keeps; n is how many facts it started from
 pub record Kept (cs : List Term) (n : ℕ) (s : State) : Type 0 where
@@ -108,24 +107,30 @@ unfolding chase
 chase-grows b [] s m = m
 chase-grows b (a ∷ as') s m = chase-grows b as' (attempt b a s) (attempt-grows b a s m)
 
--- the different constants of an instance
+-- the different constants of an instance that rules do not name
 unfoldable pub constantsOf : List Fact → List Term
-constantsOf fs = extend same [] (termsOf fs)
+constantsOf fs = extend same [] (keep (λ (t : Term). not (isFixed t)) (termsOf fs))
 
 pub constantsOf-length : (fs : List Fact) → length (constantsOf fs) ≡ constants fs
 unfolding constantsOf constants
 constantsOf-length fs = refl
 
-built-constants : {cs : List Term} {ts : List Term} → Constants ts → ((t : Term) → List·Memᴰ t ts → List·Memᴰ t cs) → (t : Term) → List·Memᴰ t ts → Built cs t
+built-constants : {n : ℕ} {cs : List Term} {ts : List Term} → Constants n ts → ((c : ℕ) → List·Memᴰ (constant c) ts → List·Memᴰ (constant c) cs) → (t : Term)
+    → List·Memᴰ t ts → Built cs t
 built-constants none h t m = absurd (List·Memᴰ·not-nil m)
-built-constants {cs} (more {c = c} {ts = ts} k) h t m =
-    ⊎-elim (λ (e : t ≡ constant c). subst (λ (x : Term). Built cs x) (sym e) (leaf (h (constant c) (List·Memᴰ·head refl))))
+built-constants {cs = cs} (more {c = c} {ts = ts} k) h t m =
+    ⊎-elim (λ (e : t ≡ constant c). subst (λ (x : Term). Built cs x) (sym e) (leaf (h c (List·Memᴰ·head refl))))
+    (λ (i : List·Memᴰ t ts). built-constants k (λ s j. h s (List·Memᴰ·tail j)) t i) (List·Memᴰ·cases-cons m)
+built-constants {cs = cs} (known {c = c} {ts = ts} l k) h t m =
+    ⊎-elim (λ (e : t ≡ fixed c). subst (λ (x : Term). Built cs x) (sym e) built-known)
     (λ (i : List·Memᴰ t ts). built-constants k (λ s j. h s (List·Memᴰ·tail j)) t i) (List·Memᴰ·cases-cons m)
 
 -- the facts of an instance are built from its constants
 built-instance : (b : RuleSet) (fs : List Fact) → ((f : Fact) → List·Memᴰ f fs → Over b f) → (f : Fact) → List·Memᴰ f fs → BuiltFact (constantsOf fs) f
-unfolding constantsOf
-built-instance b fs over f m = built-constants (over f m .constant) (λ t k. extend-right same same-decides [] (mem-termsOf m k))
+unfolding constantsOf isFixed
+built-instance b fs over f m =
+    built-constants (over f m .constant)
+    (λ c k. extend-right same same-decides [] (mem-keep (λ (t : Term). not (isFixed t)) (mem-termsOf m k) refl))
 
 pub initial-kept : (b : RuleSet) (fs : List Fact) → ((f : Fact) → List·Memᴰ f fs → Over b f) → Kept (constantsOf fs) (length (initial fs .facts)) (initial fs)
 unfolding initial

@@ -3,28 +3,30 @@
 use mathlib.Core.Path.{_≡_, refl, sym, ap, _∙_, subst}
 use mathlib.Core.Bool.{true, false, _||_}
 use mathlib.Core.Logic.{_⊎_, inl, inr, ⊎-elim}
-use mathlib.Core.List.{List, [], _∷_, map, List·Memᴰ, List·Memᴰ·not-nil, Memᴰ·cast, map-map}
+use mathlib.Core.List.{List, [], _∷_, map, List·Memᴰ, List·Memᴰ·not-nil, List·Memᴰ·cases-cons, Memᴰ·cast, map-map}
 use Prim.Native.Nat.{ℕ}
 use native.Mathlib.Nat.{zero-add}
-use lib.ListN.{length, replicate, length-map}
+use lib.Dec.{ltb}
+use lib.ListN.{length, length-map}
 use Rattle.model.specs.Lists.{any, extend}
-use Rattle.model.specs.Term.{Term, star, constant, starred, cyclic}
+use Rattle.model.specs.Term.{Term, star, fixed, starred, cyclic}
 use Rattle.model.specs.Rules.{Rule, RuleSet, Disjunct, Entry, entries, inBody, universal, datalog}
 use Rattle.model.specs.WellFormed.{WellFormed}
 use Rattle.model.specs.Triggers.{Fact, sameFact, assign, instantiate, headFacts, output}
 use Rattle.model.specs.Blocking.{blocked}
-use Rattle.model.specs.Stages.{critical}
+use Rattle.model.specs.Stages.{leaves, critical}
 use Rattle.model.specs.Published.{Substitution, Blocked}
 use Rattle.model.specs.Chase.{Attempt, State, satisfied, fits, datalogDone, applicable, attempt, chase, initial}
-use Rattle.model.specs.Demand.{starredFact, Constants, none, more, Over}
+use Rattle.model.specs.Demand.{starredFact, Constants, none, more, known, Over}
 use Rattle.laws.proofs.Bools.{not-both, and-true, or-true, is-false}
 use Rattle.laws.proofs.Lists.{mem-collect, extend-mem}
 use Rattle.laws.proofs.Facts.{fact-path}
 use Rattle.laws.proofs.Rules.{entries-mem}
 use Rattle.laws.proofs.Triggers.{Loaded, Agree, headFacts-agree, mem-output}
 use Rattle.laws.proofs.WellFormed.{entry-well-formed}
+use Rattle.laws_stages.proofs.Tuples.{star-leaf, fixed-leaf}
 use Rattle.laws_stages.proofs.Arities.{mem-critical}
-use Rattle.laws_published.proofs.Blocked.{blocked-sound}
+use Rattle.laws_published.proofs.Blocked.{blocks-not-datalog, blocked-sound}
 use Rattle.laws_chase.proofs.Attempts.{Applies, given, stepped, attempt-steps, attempt-cases, applies-entry, applies-disjunct, applies-loaded, applies-unsatisfied}
 use Rattle.laws_demand.proofs.Maps.{map-instantiate, mem-map-headFacts}
 use Rattle.laws_demand.proofs.Starred.{starred-commutes, starredFact-map, any-cyclic-starred, blocked-starred}
@@ -34,7 +36,7 @@ use Rattle.laws_demand.proofs.TestSet.{blocked-satisfied}
 
 -- a list that no stage adds to
 pub record Saturated (b : RuleSet) (listed : List Fact) : Type 0 where
-  pub critical : (f : Fact) → List·Memᴰ f (critical 0 (b .arities)) → List·Memᴰ f listed
+  pub critical : (f : Fact) → List·Memᴰ f (critical (leaves b) 0 (b .arities)) → List·Memᴰ f listed
   pub outputs : (e : Entry) (m : List Term) → List·Memᴰ e (entries b) → Substitution (e .rule) m → Loaded (e .rule) listed (assign (universal (e .rule)) m)
       → blocked (entries b) e m ≡ false → (f : Fact) → List·Memᴰ f (output (assign (universal (e .rule)) m) (e .disjuncts)) → List·Memᴰ f listed
 
@@ -51,7 +53,7 @@ step-free {b} w {a} {s} {e} h x = is-false (blocked (entries b) e (map (given a)
   where
     stuck : Blocked b e (map (given a) (universal (e .rule))) → ⊥
     stuck k =
-        ⊎-elim (λ (i : datalog (e .rule) ≡ true). not-both (datalog (e .rule)) i (k .2 .0))
+        ⊎-elim (λ (i : datalog (e .rule) ≡ true). not-both (datalog (e .rule)) i (blocks-not-datalog (ltb 2 (b .version)) (e .rule) (k .2 .0)))
         (λ (i : datalogDone (entries b) (s .facts) ≡ true).
         not-both (satisfied (s .facts) (given a) (e .disjuncts)) (blocked-satisfied w x i (applies-entry h) (given a) (applies-loaded h) k) (applies-unsatisfied h))
         (or-true (datalog (e .rule)) (datalogDone (entries b) (s .facts))
@@ -77,17 +79,20 @@ output-covered {b} w {listed} s {fs} c {e} m σ l free {d} i {f} k =
 
 -- the start
 
-starred-constants : {ts : List Term} → Constants ts → map starred ts ≡ replicate (length ts) star
+starred-constants : (b : RuleSet) {ts : List Term} → Constants (b .fixed) ts → (t : Term) → List·Memᴰ t (map starred ts) → List·Memᴰ t (leaves b)
 unfolding starred
-starred-constants none = refl
-starred-constants (more c) = ap (λ (ts : List Term). star ∷ ts) (starred-constants c)
+starred-constants b none t m = absurd (List·Memᴰ·not-nil m)
+starred-constants b (more {ts = ts} c) t m =
+    ⊎-elim (λ (e : t ≡ star). Memᴰ·cast e (star-leaf b)) (λ (k : List·Memᴰ t (map starred ts)). starred-constants b c t k) (List·Memᴰ·cases-cons m)
+starred-constants b (known {c = n} {ts = ts} h c) t m =
+    ⊎-elim (λ (e : t ≡ fixed n). Memᴰ·cast e (fixed-leaf b n h)) (λ (k : List·Memᴰ t (map starred ts)). starred-constants b c t k) (List·Memᴰ·cases-cons m)
 
-instance-critical : (b : RuleSet) (f : Fact) → Over b f → List·Memᴰ (starredFact f) (critical 0 (b .arities))
+instance-critical : (b : RuleSet) (f : Fact) → Over b f → List·Memᴰ (starredFact f) (critical (leaves b) 0 (b .arities))
 unfolding starredFact
 instance-critical b f o =
-    Memᴰ·cast
-    (fact-path (sym (zero-add (f .predicate))) (starred-constants (o .constant) ∙ ap (λ (n : ℕ). replicate n star) (o .arity)))
-    (mem-critical 0 (b .arities) (f .predicate) (o .declared))
+    Memᴰ·cast (fact-path (sym (zero-add (f .predicate))) refl)
+    (mem-critical (leaves b) 0 (b .arities) (f .predicate) (map starred (f .arguments)) (o .declared) (length-map (f .arguments) starred ∙ o .arity)
+    (starred-constants b (o .constant)))
 
 initial-mem : (fs : List Fact) {f : Fact} → List·Memᴰ f (initial fs .facts) → List·Memᴰ f fs
 unfolding initial

@@ -16,9 +16,9 @@ use Rattle.model.specs.Chase.{Attempt, satisfied, fits, datalogDone}
 use Rattle.laws.proofs.Bools.{case, not-both, or-true, or-left, or-right, is-false}
 use Rattle.laws.proofs.Lists.{all-mem, mem-all, map-mem, extend-right}
 use Rattle.laws.proofs.Terms.{same-decides}
-use Rattle.laws.proofs.Rules.{universal-mem, entries-mem, length-disjuncts}
+use Rattle.laws.proofs.Rules.{inBody-small, universal-mem, entries-mem, length-disjuncts}
 use Rattle.laws.proofs.Triggers.{Loaded, Assignment, triggers-mem, mem-triggers, loaded-value}
-use Rattle.laws.proofs.WellFormed.{inBody-range, entry-well-formed}
+use Rattle.laws.proofs.WellFormed.{entry-well-formed}
 use Rattle.laws_chase.proofs.Attempts.{given, drop-mem}
 use Rattle.laws_demand.proofs.Loaded.{assign-agree, loaded-agree, satisfied-agree, fits-loaded, fits-unsatisfied, loaded-fits, fits-agree}
 use Rattle.laws_demand.proofs.Disjuncts.{some-disjunct}
@@ -124,7 +124,7 @@ unfit-attempts {b} w fs h e m g σ =
     let (n, es, i) = mem-drop m in
     let (d, ds, j) = some-disjunct (e .disjuncts) (rw (length-disjuncts b m) (r .some)) in
     let a : Attempt = record { rule = n; terms = map σ names; disjunct = 0 } in
-    not-both (fits fs e (given a)) (fits-agree (entries-mem b m) fs {σ = σ} {τ = given a} (λ v i. sym (getD-names σ v (inBody-range r i))) k)
+    not-both (fits fs e (given a)) (fits-agree (entries-mem b m) fs {σ = σ} {τ = given a} (λ v i. sym (getD-names σ v (inBody-small (e .rule) v i))) k)
     (h a e d (record { rule = (es, i); disjunct = (ds, j) }) g))
 
 -- the test of the chase is true exactly where no possible attempt on a Datalog rule fits

@@ -22,7 +22,7 @@ pub assign-agree : {arities : List ℕ} {r : Rule} → WellFormedRule arities r 
 assign-agree {r = r} w σ v e = assign-map (universal r) σ (inBody-universal w e)
 
 pub loaded-agree : (r : Rule) (fs : List Fact) {σ τ : ℕ → Term} → Agree r σ τ → Loaded r fs σ → Loaded r fs τ
-loaded-agree r fs {σ} {τ} h l a m = Memᴰ·cast (instantiate-agree τ σ a (λ v k. sym (h v (mem-inBody r (mem-variablesOf m k))))) (l a m)
+loaded-agree r fs {σ} {τ} h l a m = Memᴰ·cast (instantiate-agree τ σ a (λ v n k. sym (h v (mem-inBody r n (mem-variablesOf m k))))) (l a m)
 
 -- a disjunct is satisfied: all its facts are in the set
 abbrev pub Satisfied : List Fact → (ℕ → Term) → Disjunct → Type 0

@@ -4,23 +4,23 @@ use mathlib.Core.Path.{_≡_, sym, subst, subst₂}
 use mathlib.Core.Bool.{true, false}
 use mathlib.Core.Logic.{_⊎_, inl, inr, ⊎-elim}
 use mathlib.Core.List.{List, map, List·Memᴰ, List·Memᴰ·not-nil, List·Memᴰ·cases-cons}
-use Prim.Native.Nat.{ℕ, suc, _+_, _≤_}
+use Prim.Native.Nat.{ℕ, suc, _+_, _-_, _≤_}
 use lib.Dec.{eqb}
 use Rattle.model.specs.Lists.{extend, index, collect}
-use Rattle.model.specs.Term.{Term, Terms, constant, skolem, list, terms}
+use Rattle.model.specs.Term.{Term, Terms, constant, fixed, skolem, list, terms}
 use Rattle.model.specs.Rules.{Atom, RuleSet, Disjunct, Entry, entries, inBody, frontier, existential, owns}
 use Rattle.model.specs.WellFormed.{WellFormed}
 use Rattle.model.specs.Triggers.{Fact, sameFact, instantiate, headTerm, headFacts}
-use Rattle.model.specs.Demand.{Constants, none, more}
+use Rattle.model.specs.Demand.{Constants, none, more, known}
 use Rattle.laws.proofs.Bools.{case}
 use Rattle.laws.proofs.Lists.{collect-mem, map-mem, extend-left, extend-right, extend-mem}
 use Rattle.laws.proofs.Terms.{list-terms}
 use Rattle.laws.proofs.Facts.{sameFact-decides, mem-termsOf, termsOf-mem}
 use Rattle.laws.proofs.Rules.{universal-mem, frontier-mem, mem-existential, mem-variablesOf, entries-mem}
-use Rattle.laws.proofs.Triggers.{Loaded, headTerm-universal, headTerm-existential, headFacts-mem, loaded-value}
+use Rattle.laws.proofs.Triggers.{Loaded, Value, instantiate-mem, headTerm-universal, headTerm-existential, headFacts-mem, loaded-value}
 use Rattle.laws.proofs.WellFormed.{entry-well-formed}
 use Rattle.laws.proofs.Owners.{disjunctsOf, owns-existential}
-use Rattle.laws_published.proofs.Subterms.{subterms, skolem-function, skolem-arguments, subterms-constant, skolem-cases}
+use Rattle.laws_published.proofs.Subterms.{subterms, skolem-function, skolem-arguments, subterms-constant, subterms-fixed, skolem-cases}
 use Rattle.laws_demand.proofs.Loaded.{Satisfied}
 use Rattle.laws_demand.proofs.Subterms.{subtermsOf, mem-subtermsOf, subtermsOf-mem}
 
@@ -50,23 +50,20 @@ origin-grows i o =
       head = λ g m. i g (o .head g m);
     }
 
-pub explained-start : (b : RuleSet) (fs : List Fact) → ((f : Fact) → List·Memᴰ f fs → Constants (f .arguments)) → Explained b fs
+pub explained-start : (b : RuleSet) (fs : List Fact) → ((f : Fact) → List·Memᴰ f fs → Constants (b .fixed) (f .arguments)) → Explained b fs
 explained-start b fs h f ts m =
     let (u, i, j) = subtermsOf-mem fs m in
     let (g, k, l) = termsOf-mem fs i in
     absurd (go (h g k) l j)
   where
-    go : {us : List Term} → Constants us → {u : Term} → List·Memᴰ u us → List·Memᴰ (skolem f ts) (subterms u) → ⊥
+    go : {n : ℕ} {us : List Term} → Constants n us → {u : Term} → List·Memᴰ u us → List·Memᴰ (skolem f ts) (subterms u) → ⊥
     go none l j = List·Memᴰ·not-nil l
     go (more {c = c} {ts = us} k) {u} l j =
         ⊎-elim (λ (e : u ≡ constant c). subterms-constant c (subst (λ (x : Term). List·Memᴰ (skolem f ts) (subterms x)) e j))
         (λ (i : List·Memᴰ u us). go k i j) (List·Memᴰ·cases-cons l)
-
-pub head-variable : {b : RuleSet} → WellFormed b → {d : Disjunct} → List·Memᴰ d (disjunctsOf (entries b)) → {a : Atom} → List·Memᴰ a (d .atoms)
-    → {v : ℕ} → List·Memᴰ v (a .variables) → v ≤ 7
-head-variable {b} w {d} m {a} i {v} k =
-    let (e, n, j) = collect-mem (λ (e : Entry). e .disjuncts) (entries b) m in
-    entry-well-formed w n .each (d .atoms) (entries-mem b n .disjuncts d j .1) .each a i .range v k
+    go (known {c = c} {ts = us} h k) {u} l j =
+        ⊎-elim (λ (e : u ≡ fixed c). subterms-fixed c (subst (λ (x : Term). List·Memᴰ (skolem f ts) (subterms x)) e j))
+        (λ (i : List·Memᴰ u us). go k i j) (List·Memᴰ·cases-cons l)
 
 -- one step: a disjunct's facts are added under a loaded trigger
 module _ {b : RuleSet} (w : WellFormed b) {fs : List Fact} (x : Explained b fs) {d : Disjunct} (m : List·Memᴰ d (disjunctsOf (entries b)))
@@ -113,16 +110,16 @@ module _ {b : RuleSet} (w : WellFormed b) {fs : List Fact} (x : Explained b fs) 
           let (z, s, e) = map-mem σ (frontier (d .rule)) (subst (λ (l : List Term). List·Memᴰ u l) (list-terms (map σ (frontier (d .rule)))) p) in
           bound-variable z (universal-mem (d .rule) (frontier-mem (d .rule) s)) f ts (subst (λ (y : Term). List·Memᴰ (skolem f ts) (subterms y)) e q)
 
-  head-term : {a : Atom} {v : ℕ} → List·Memᴰ a (d .atoms) → List·Memᴰ v (a .variables) → (f : ℕ) (ts : Terms)
+  head-term : {a : Atom} {v : ℕ} → List·Memᴰ a (d .atoms) → v ≤ 7 → List·Memᴰ v (a .variables) → (f : ℕ) (ts : Terms)
       → List·Memᴰ (skolem f ts) (subterms (headTerm d σ v)) → Origin b added f ts
-  head-term {a} {v} i j f ts k = go (case (inBody (d .rule) v))
+  head-term {a} {v} i r j f ts k = go (case (inBody (d .rule) v))
     where
       go : (inBody (d .rule) v ≡ true) ⊎ (inBody (d .rule) v ≡ false) → Origin b added f ts
       go (inl e) = bound-variable v e f ts (rw (headTerm-universal d σ v e) at k)
-      go (inr e) = existential-variable (mem-existential (d .rule) (d .atoms) (head-variable w m i j) (mem-variablesOf i j) e) f ts (rw (headTerm-existential d σ v e) at k)
+      go (inr e) = existential-variable (mem-existential (d .rule) (d .atoms) r (mem-variablesOf i j) e) f ts (rw (headTerm-existential d σ v e) at k)
 
   pub explained-step : Explained b (extend sameFact fs (headFacts σ d))
-  unfolding added instantiate
+  unfolding added
   explained-step f ts k =
       let (u, i, j) = subtermsOf-mem added k in
       let (g, p, q) = termsOf-mem added i in
@@ -132,5 +129,8 @@ module _ {b : RuleSet} (w : WellFormed b) {fs : List Fact} (x : Explained b fs) 
       go u g j q (inl p) = old f ts (mem-subtermsOf fs (mem-termsOf p q) j)
       go u g j q (inr p) =
           let (a, n, e) = headFacts-mem σ d p in
-          let (v, s, t) = map-mem (headTerm d σ) (a .variables) (subst (λ (x : Fact). List·Memᴰ u (x .arguments)) e q) in
-          head-term n s f ts (subst (λ (y : Term). List·Memᴰ (skolem f ts) (subterms y)) t j)
+          argument u j a n (instantiate-mem (headTerm d σ) a {s = u} (subst (λ (x : Fact). List·Memᴰ u (x .arguments)) e q))
+        where
+          argument : (u : Term) → List·Memᴰ (skolem f ts) (subterms u) → (a : Atom) → List·Memᴰ a (d .atoms) → Value (a .variables) (headTerm d σ) u → Origin b added f ts
+          argument u j a n (inl (v, r, s, t)) = head-term n r s f ts (subst (λ (y : Term). List·Memᴰ (skolem f ts) (subterms y)) t j)
+          argument u j a n (inr (v, _, _, t)) = absurd (subterms-fixed (v - 8) (subst (λ (y : Term). List·Memᴰ (skolem f ts) (subterms y)) t j))

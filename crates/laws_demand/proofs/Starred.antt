@@ -6,7 +6,7 @@ use mathlib.Core.List.{List, [], _∷_, _++_, map}
 use Prim.Native.Nat.{ℕ, suc, max}
 use lib.Dec.{ltb}
 use Rattle.model.specs.Lists.{all, any}
-use Rattle.model.specs.Term.{Position, child, root, Term, Terms, star, constant, apart, fresh, skolem, none, more, terms, functions, functionsAll, meeting, nesting, nestingAny, cyclic, starred, starredAll}
+use Rattle.model.specs.Term.{Position, child, root, Term, Terms, star, constant, fixed, apart, fresh, skolem, none, more, terms, functions, functionsAll, meeting, nesting, nestingAny, cyclic, starred, starredAll}
 use Rattle.model.specs.Rules.{Disjunct, Entry, universal, blockable}
 use Rattle.model.specs.Triggers.{Fact, present, assign, headFacts}
 use Rattle.model.specs.Blocking.{rename, renameAll, renamed, saturate, testBase, testSet, blocked}
@@ -21,7 +21,7 @@ starredAll-terms (t ∷ ts) = ap (more (starred t)) (starredAll-terms ts)
 
 pub starred-commutes : Commutes starred
 unfolding starred
-starred-commutes = record { star = refl; skolem = λ f ts. ap (skolem f) (starredAll-terms ts) }
+starred-commutes = record { star = refl; fixed = λ c. refl; skolem = λ f ts. ap (skolem f) (starredAll-terms ts) }
 
 pub starredFact-map : (f : Fact) → starredFact f ≡ mapFact starred f
 unfolding starredFact
@@ -35,6 +35,7 @@ mutual
   functions-starred : (t : Term) → functions (starred t) ≡ functions t
   functions-starred star = refl
   functions-starred (constant c) = refl
+  functions-starred (fixed c) = refl
   functions-starred (apart p) = refl
   functions-starred (fresh t v) = refl
   functions-starred (skolem f ts) = ap (λ (fs : List ℕ). f ∷ fs) (functionsAll-starred ts)
@@ -49,6 +50,7 @@ mutual
   nesting-starred : (f : ℕ) (t : Term) → nesting f (starred t) ≡ nesting f t
   nesting-starred f star = refl
   nesting-starred f (constant c) = refl
+  nesting-starred f (fixed c) = refl
   nesting-starred f (apart p) = refl
   nesting-starred f (fresh t v) = refl
   nesting-starred f (skolem g ts) = ap (meeting f g) (nestingAny-starred f ts)
@@ -74,6 +76,7 @@ mutual
   rename-starred : (t : Term) (p : Position) → rename (starred t) p ≡ rename t p
   rename-starred star p = refl
   rename-starred (constant c) p = refl
+  rename-starred (fixed c) p = refl
   rename-starred (apart q) p = refl
   rename-starred (fresh t v) p = refl
   rename-starred (skolem f ts) p = ap (skolem f) (renameAll-starred ts p 0)

@@ -5,23 +5,24 @@ use mathlib.Core.Path.{_≡_, refl, sym, ap, _∙_, subst, subst₂}
 use mathlib.Core.Bool.{true, false}
 use mathlib.Core.Logic.{_⊎_, inl, inr}
 use mathlib.Core.List.{List, [], _∷_, map, List·Memᴰ, Memᴰ·cast}
-use Prim.Native.Nat.{ℕ, _<_}
+use Prim.Native.Nat.{ℕ, _-_, _≤_, _<_}
 use native.Mathlib.Omega.{arith}
 use lib.ListN.{length, getD, length-map}
 use Rattle.model.specs.Lists.{any, member}
-use Rattle.model.specs.Term.{Position, root, child, Term, Terms, star, constant, apart, fresh, skolem, none, more, list, terms, same}
-use Rattle.model.specs.Rules.{Rule, RuleSet, Disjunct, Entry, entries, inBody, universal, frontier}
+use Rattle.model.specs.Term.{Position, root, child, Term, Terms, star, constant, fixed, apart, fresh, skolem, none, more, list, terms, same}
+use Rattle.model.specs.Rules.{Rule, RuleSet, Disjunct, Entry, entries, variablesOf, inBody, universal, frontier}
 use Rattle.model.specs.WellFormed.{WellFormed, WellFormedRule}
 use Rattle.model.specs.Triggers.{Fact, assign, headFacts}
-use Rattle.model.specs.Published.{Renamed, renamed-constant, renamed-skolem, Apart, Template, Owner, Made, made-body, made-head, made-inner, TestBase, base-body, base-made, Blocked}
+use Rattle.model.specs.Published.{Renamed, renamed-constant, renamed-fixed, renamed-skolem, Apart, Template, Owner, Made, made-body, made-head, made-inner, TestBase, base-body, base-made, Blocked}
 use Rattle.model.specs.Chase.{satisfied, datalogDone}
 use Rattle.laws.proofs.Bools.{case, not-both}
 use Rattle.laws.proofs.Lists.{any-eq-mem, any-eq-not-mem, member-mem, mem-member, mem-collect, map-mem, mem-map, getD-map}
 use Rattle.laws.proofs.Terms.{same-decides, ext-terms}
 use Rattle.laws.proofs.Rules.{entries-mem}
-use Rattle.laws.proofs.Triggers.{Loaded, Agree, assign-map, body-mem, headFacts-agree, loaded-value}
+use Rattle.laws.proofs.Triggers.{BodyValue, Loaded, Agree, assign-map, body-mem, headFacts-agree, loaded-value}
 use Rattle.laws.proofs.WellFormed.{inBody-universal, entry-well-formed}
 use Rattle.laws.proofs.Owners.{owner-unique}
+use Rattle.laws_published.proofs.MadeBy.{made-not-fixed}
 use Rattle.laws_demand.proofs.Maps.{mapFact, Commutes, map-assign, map-headFacts, mem-map-headFacts, mem-map-body}
 use Rattle.laws_demand.proofs.Loaded.{Satisfied, mem-satisfied}
 use Rattle.laws_demand.proofs.Subterms.{subtermsOf, termsOf-subtermsOf, subtermsOf-argument}
@@ -33,6 +34,7 @@ use Rattle.laws_demand.proofs.Closure.{closed-map}
 argument : ℕ → Term → Term
 argument k star = star
 argument k (constant c) = star
+argument k (fixed c) = star
 argument k (apart p) = star
 argument k (fresh t v) = star
 argument k (skolem f ts) = getD (list ts) k star
@@ -46,6 +48,7 @@ module _ (ω : Term → ℕ → Term) (σ : ℕ → Term) where
     back : Term → Term
     back star = star
     back (constant c) = constant c
+    back (fixed c) = fixed c
     back (apart p) = standing p
     back (fresh t v) = ω (back t) v
     back (skolem f ts) = skolem f (backAll ts)
@@ -66,11 +69,12 @@ module _ (ω : Term → ℕ → Term) (σ : ℕ → Term) where
 
   back-commutes : Commutes back
   unfolding back
-  back-commutes = record { star = refl; skolem = λ f ts. ap (skolem f) (backAll-terms ts) }
+  back-commutes = record { star = refl; fixed = λ c. refl; skolem = λ f ts. ap (skolem f) (backAll-terms ts) }
 
   back-renamed : {t s : Term} {p : Position} → Renamed t p s → standing p ≡ t → back s ≡ t
   unfolding back standing argument
-  back-renamed (renamed-constant n) e = e
+  back-renamed (renamed-constant n h) e = e
+  back-renamed renamed-fixed e = refl
   back-renamed (renamed-skolem {f} {ts} {us} l h) e = go (λ k i. back-renamed (h k i) (ap (argument k) e))
     where
       go : ((k : ℕ) → k < length (list ts) → back (getD (list us) k star) ≡ getD (list ts) k star) → skolem f (backAll us) ≡ skolem f ts
@@ -93,6 +97,7 @@ module _ {b : RuleSet} {fs : List Fact} (x : Explained b fs) where
   binding : Term → ℕ → Term
   binding star v = star
   binding (constant c) v = star
+  binding (fixed c) v = star
   binding (apart p) v = star
   binding (fresh t u) v = star
   binding (skolem f ts) v = chosen f ts (case (any (same (skolem f ts)) (subtermsOf fs))) v
@@ -165,8 +170,12 @@ module _ {b : RuleSet} {fs : List Fact} (x : Explained b fs) {r : Rule} (g : Wel
   testBase-restored : (f : Fact) → TestBase b r (assign (universal r) u) f → List·Memᴰ (mapFact (restored x σ) f) fs
   testBase-restored f (base-body m) = mem-map-body (restored x σ) (commutes x σ) r (assign (universal r) u) σ apart-restored l m
   testBase-restored f (base-made t m k h) =
-      let (v, i, e) = body-mem r (assign (universal r) u) m k in
-      made-restored x σ h (Memᴰ·cast (ap (restored x σ) e ∙ apart-restored v i) (termsOf-subtermsOf fs (loaded-value r fs σ l i)))
+      go (body-mem r (assign (universal r) u) m k)
+    where
+      go : BodyValue r (assign (universal r) u) t
+          → List·Memᴰ (mapFact (restored x σ) f) fs
+      go (inl (v, i, e)) = made-restored x σ h (Memᴰ·cast (ap (restored x σ) e ∙ apart-restored v i) (termsOf-subtermsOf fs (loaded-value r fs σ l i)))
+      go (inr (v, _, _, e)) = absurd (made-not-fixed h e)
 
 -- 004, Theorem 49: over a set on which no Datalog rule fits, a blocked trigger has a satisfied disjunct
 pub blocked-satisfied : {b : RuleSet} → WellFormed b → {fs : List Fact} → Explained b fs → datalogDone (entries b) fs ≡ true → {e : Entry}

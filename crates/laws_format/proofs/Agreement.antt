@@ -214,7 +214,7 @@ module _ (form other : List ℕ) where
         let r : spaced (ruleAt other (aritiesOf other)) 106 (getD other 1 0) 2 ≡ spaced (ruleAt form arities) 106 (getD form 1 0) 2 =
         ap (λ (xs : List ℕ). spaced (ruleAt other xs) 106 (getD other 1 0) 2) p ∙ q
         in
-        λ i. record { version = version-agree i; arities = p i; rules = r i }
+        λ i. record { version = version-agree i; fixed = 0; arities = p i; rules = r i }
 
     -- the same counted places
     pub counted-agree : (p : ℕ) → counted other p ≡ counted form p

@@ -157,7 +157,7 @@ module _ {b : RuleSet} (w : WellFormed b) where
       let c : spaced (ruleAt form (numbersFrom form 6786 (length (b .arities)))) 106 (length (b .rules)) 2 ≡ b .rules =
       ap (λ (ar : List ℕ). spaced (ruleAt form ar) 106 (length (b .rules)) 2) p ∙ q
       in
-      λ i. record { version = v i; arities = p i; rules = c i }
+      λ i. record { version = v i; fixed = sym (w .unnamed) i; arities = p i; rules = c i }
 
 -- the shape of what a form holds
 
@@ -189,4 +189,4 @@ pub decoded-shaped : (form : List ℕ) → Shaped (decoded form)
 unfolding decoded
 decoded-shaped form =
     let arities : List ℕ = numbersFrom form aritiesPlace (getD form 0 0) in
-    spaced-each (ShapedRule arities) (ruleAt form arities) 106 (getD form 1 0) 2 (ruleAt-shaped form arities)
+    record { unnamed = refl; rules = spaced-each (ShapedRule arities) (ruleAt form arities) 106 (getD form 1 0) 2 (ruleAt-shaped form arities) }

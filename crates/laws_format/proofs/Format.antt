@@ -28,15 +28,20 @@ pub record ShapedRule (arities : List ℕ) (r : Rule) : Type 0 where
   pub body : ShapedAtoms arities (r .body)
   pub head : (d : List Atom) → List·Memᴰ d (r .head) → ShapedAtoms arities d
 
--- a rule set whose atoms have as many variables as their predicates' arities say
-abbrev pub Shaped : RuleSet → Type 0
-Shaped b = (r : Rule) → List·Memᴰ r (b .rules) → ShapedRule (b .arities) r
+-- a rule set that names no constants, and whose atoms have as many variables as their predicates' arities say
+pub record Shaped (b : RuleSet) : Type 0 where
+  pub unnamed : b .fixed ≡ 0
+  pub rules : (r : Rule) → List·Memᴰ r (b .rules) → ShapedRule (b .arities) r
 
 pub wellFormed-shaped : {b : RuleSet} → WellFormed b → Shaped b
-wellFormed-shaped w r m =
+wellFormed-shaped w =
     record {
-      body = λ a k. w .rules r m .body .each a k .arity;
-      head = λ d n a k. w .rules r m .each d n .each a k .arity;
+      unnamed = w .unnamed;
+      rules = λ r m.
+          record {
+            body = λ a k. w .rules r m .body .each a k .arity;
+            head = λ d n a k. w .rules r m .each d n .each a k .arity;
+          };
     }
 
 module _ (bs : List ℕ) (s : Signature) (some : 1 ≤ length (s .arities)) where
@@ -192,7 +197,10 @@ module _ (bs : List ℕ) where
   version-codes = byte-codes bs 1 lastVersion 3 (omega arith) (omega arith)
 
   abbrev built : ℕ → List ℕ → List Rule → RuleSet
-  built v arities rs = record { version = v; arities = arities; rules = rs }
+  built v arities rs = record { version = v; fixed = 0; arities = arities; rules = rs }
+
+  built-whole : (b : RuleSet) → b .fixed ≡ 0 → built (b .version) (b .arities) (b .rules) ≡ b
+  built-whole b e = λ i. record { version = b .version; fixed = sym e i; arities = b .arities; rules = b .rules }
 
   -- the arities and the rules, each as a counted list
   rulesOf : ℕ → List ℕ → ℕ → Parsed RuleSet
@@ -237,6 +245,7 @@ module _ (bs : List ℕ) where
             record {
               first = g .0 .above;
               last = g .0 .below;
+              unnamed = refl;
               some = h .0 .count .above;
               few = h .0 .count .below;
               arities = λ n m. (h .0 .each n m .above, h .0 .each n m .below);
@@ -263,12 +272,13 @@ module _ (bs : List ℕ) where
       (meets-then _ (version-codes .meets (b .version) 4 (first ++ (b .arities ++ last)) tt e) (λ u. record { above = u .first; below = u .last })
       (λ v. meets-then _ (arities-codes (b .version) .meets (b .arities) 5 last tt rules)
       (λ u. record { count = record { above = u .some; below = u .few }; each = λ n m. record { above = u .arities n m .0; below = u .arities n m .1 } })
-      (λ h. meets-then _ (rules-codes (signed (b .version) (b .arities)) (h .count .above) .meets (b .rules) place [] s
+      (λ h. meets-then _ (rules-codes (signed (b .version) (b .arities)) (h .count .above) .meets (b .rules) place [] (s .rules)
       (drop-past bs (first ++ b .arities) last 5 rules ∙ sym (append-nil last)))
       (λ u. record { count = record { above = omega arith; below = u .short }; each = u .rules })
-      (λ g. rw (end, ended-good b) (taken (record {
+      (λ g. rw (end, built-whole b (s .unnamed), ended-good b) (taken (record {
         first = v .above;
         last = v .below;
+        unnamed = s .unnamed;
         some = h .count .above;
         few = h .count .below;
         arities = λ n m. (h .each n m .above, h .each n m .below);

@@ -4,13 +4,14 @@ use mathlib.Core.Bool.{Bool, true, false}
 use mathlib.Core.Logic.{_↔_, ⊎-elim}
 use mathlib.Core.List.{List, List·Memᴰ}
 use Prim.Native.Nat.{ℕ, _≤_}
+use lib.Dec.{ltb}
 use lib.ListN.{length}
 use Rattle.model.specs.Lists.{all, any}
 use Rattle.model.specs.Term.{Term}
-use Rattle.model.specs.Rules.{Rule, RuleSet, Disjunct, Entry, entries, universal, blockable}
+use Rattle.model.specs.Rules.{Rule, RuleSet, Disjunct, Entry, entries, universal, datalog, blockable}
 use Rattle.model.specs.Triggers.{Fact, present, assign, headFacts}
 use Rattle.model.specs.Blocking.{renamed, testBase, testSet, blocked}
-use Rattle.model.specs.Published.{Substitution, Apart, Closed, TestBase, Blocked}
+use Rattle.model.specs.Published.{Substitution, Apart, Closed, TestBase, Blocks, Blocked}
 use Rattle.laws.proofs.Bools.{case, not-both}
 use Rattle.laws.proofs.Lists.{any-mem, mem-any, all-mem, mem-all}
 use Rattle.laws.proofs.Facts.{present-mem, mem-present}
@@ -36,6 +37,11 @@ blocked-unblockable es e m h = rw (h, blocked)
 pub blocked-blockable : (es : List Entry) (e : Entry) (m : List Term) → blockable (e .rule) ≡ true → blocked es e m ≡ holdsDisjunct (testSet es (e .rule) m) e m
 unfolding blocked
 blocked-blockable es e m h = rw (h, blocked)
+
+-- a rule that may be blocked is not Datalog
+pub blocks-not-datalog : (newer : Bool) (r : Rule) → Blocks newer r → datalog r ≡ false
+blocks-not-datalog true r h = blockable-not-datalog r h
+blocks-not-datalog false r h = h
 
 only-blockable : (es : List Entry) (e : Entry) (m : List Term) → blocked es e m ≡ true → blockable (e .rule) ≡ true
 only-blockable es e m h =
@@ -66,13 +72,17 @@ module _ (b : RuleSet) where
     abbrev s : List Fact
     s = testSet (entries b) (e .rule) m
 
+    may : (newer : Bool) → blockable (e .rule) ≡ true → Blocks newer (e .rule)
+    may true n = n
+    may false n = blockable-not-datalog (e .rule) n
+
     pub blocked-sound : blocked (entries b) e m ≡ true → Blocked b e m
     blocked-sound h =
         let n = only-blockable (entries b) e m h in
         let u = renamed (universal (e .rule)) m in
         let a = renamed-is-published (e .rule) m sub u .0 refl in
         let (d, k, i) = any-mem (λ (d : Disjunct). all (present s) (headFacts (apartly (e .rule) m) d)) (e .disjuncts) (sym (blocked-blockable (entries b) e m n) ∙ h) in
-        (u, a, (blockable-not-datalog (e .rule) n, d, k, λ f j. test-set-sound (e .rule) m u sub a (present-mem s f (all-mem (present s) i j))))
+        (u, a, (may (ltb 2 (b .version)) n, d, k, λ f j. test-set-sound (e .rule) m u sub a (present-mem s f (all-mem (present s) i j))))
 
     pub blocked-complete : blockable (e .rule) ≡ true → length (testSet (entries b) (e .rule) m) ≤ 1024 → Blocked b e m → blocked (entries b) e m ≡ true
     blocked-complete j h (u, a, (n, d, k, c)) =

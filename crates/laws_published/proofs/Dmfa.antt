@@ -3,40 +3,51 @@
 use mathlib.Core.Path.{_≡_, refl, sym, ap, _∙_, subst}
 use mathlib.Core.Bool.{true, false}
 use mathlib.Core.Logic.{_↔_, _⊎_, inl, inr, ⊎-elim}
-use mathlib.Core.List.{List, [], List·Memᴰ, List·Memᴰ·head, List·Memᴰ·eq-of-singleton, Memᴰ·cast}
+use mathlib.Core.List.{List, [], List·Memᴰ, List·Memᴰ·head}
 use Prim.Native.Nat.{ℕ, zero, suc, _≤_, _<_}
 use native.Mathlib.Nat.{zero-add}
 use native.Mathlib.Omega.{arith}
 use native.Mathlib.Decide.{decLt}
-use lib.ListN.{getD, replicate}
+use lib.Dec.{ltb}
+use lib.ListN.{getD}
 use Rattle.model.specs.Lists.{any}
-use Rattle.model.specs.Term.{Term, star, functions, cyclic}
+use Rattle.model.specs.Term.{Term, star, fixed, functions, cyclic}
 use Rattle.model.specs.Rules.{RuleSet, Entry, entries, universal, blockable}
 use Rattle.model.specs.WellFormed.{WellFormed}
 use Rattle.model.specs.Triggers.{Fact, assign, instantiate}
 use Rattle.model.specs.Blocking.{blocked}
-use Rattle.model.specs.Stages.{Stage, critical, triggersIn, stage, cyclicTerms, tooMany, accepted, cyclicAt, refused, verdict}
-use Rattle.model.specs.Published.{Substitution, Blocked, Critical, Dmfa, start, step}
+use Rattle.model.specs.Stages.{Stage, leaves, critical, triggersIn, stage, cyclicTerms, tooMany, accepted, cyclicAt, refused, verdict}
+use Rattle.model.specs.Published.{Substitution, Blocked, Leaf, leaf-star, leaf-fixed, Critical, Dmfa, start, step}
 use Rattle.laws.proofs.Bools.{case, not-both, is-false}
-use Rattle.laws.proofs.Facts.{fact-path, termsOf-mem}
+use Rattle.laws.proofs.Facts.{termsOf-mem}
 use Rattle.laws.proofs.Triggers.{Assignment, Loaded, triggers-mem}
+use Rattle.laws.proofs.WellFormed.{older-unnamed}
 use Rattle.laws.proofs.Prefixes.{prefix-mem}
 use Rattle.laws_stages.specs.Reached.{Reached}
 use Rattle.laws_stages.proofs.Outputs.{Fires, outputs-mem, mem-outputs, cyclicTerms-mem, outputs-acyclic, test-sets-within}
 use Rattle.laws_stages.proofs.Growth.{stage-zero-facts, stage-zero-terms, outputsOf, facts-from, facts-grow, outputs-added, arguments-in-terms, Named, terms-are-named}
-use Rattle.laws_stages.specs.Says.{CyclicAt, Cause, large, many, facts, terms}
+use Rattle.laws_stages.specs.Says.{CyclicAt, Cause, large, many, facts, terms, Refused, Crowded}
 use Rattle.laws_stages.proofs.Verdict.{accepted-says, cyclicAt-says, refused-says, reached-before, accepted-closed}
 use Rattle.laws_stages.proofs.Arities.{critical-mem, mem-critical}
-use Rattle.laws_stages.proofs.Order.{Proper, proper-star, proper-skolem, terms-proper}
+use Rattle.laws_stages.proofs.Tuples.{LeafOf, leaves-mem, star-leaf, fixed-leaf}
+use Rattle.laws_stages.proofs.Order.{Invented, terms-from}
 use Rattle.laws_published.proofs.Closure.{loaded-trigger}
 use Rattle.laws_published.proofs.Blocked.{blocked-sound, blocked-complete}
 use Rattle.laws_published.proofs.Rooted.{Grounded, grounded-star, grounded-skolem}
 use Rattle.laws_published.proofs.Unblockable.{never-blocked}
 
--- terms of stages are grounded
-proper-grounded : {t : Term} → Proper t → Grounded t
-proper-grounded proper-star = grounded-star
-proper-grounded (proper-skolem f some few h) = grounded-skolem some (λ t m. proper-grounded (h t m))
+-- where rules name no constants, terms of stages are grounded
+terms-grounded : (b : RuleSet) → WellFormed b → b .fixed ≡ 0 → (n : ℕ) {t : Term} → List·Memᴰ t (stage b n .terms) → Grounded t
+terms-grounded b w u zero {t} m = go (leaves-mem b (rw (stage-zero-terms b) at m))
+  where
+    go : LeafOf b t → Grounded t
+    go (inl e) = subst Grounded (sym e) grounded-star
+    go (inr (c, h, e)) = absurd (omega arith)
+terms-grounded b w u (suc n) {t} m = go (λ s k. terms-grounded b w u n k) (terms-from b w n m)
+  where
+    go : ((s : Term) → List·Memᴰ s (stage b n .terms) → Grounded s) → List·Memᴰ t (stage b n .terms) ⊎ Invented (entries b) (stage b n .terms) t → Grounded t
+    go below (inl k) = below t k
+    go below (inr i) = subst Grounded (sym (i .term)) (grounded-skolem (i .some) (λ s k. below s (i .old s k)))
 
 -- the triggers of a stage, as the two notions have them
 triggersIn-mem : (s : Stage) (e : Entry) {m : List Term} → List·Memᴰ m (triggersIn s e)
@@ -52,17 +63,30 @@ mem-triggersIn b n e m t l =
     (λ u k. let (f, i, j) = termsOf-mem (stage b n .facts) k in arguments-in-terms b n i j)
 
 -- stage 0 is the critical instance
-pub critical-is-published : (b : RuleSet) (f : Fact) → List·Memᴰ f (critical 0 (b .arities)) ↔ Critical b f
-critical-is-published b f = (to, λ c. Memᴰ·cast (fact-path (sym (zero-add (f .predicate))) (c .stars)) (mem-critical 0 (b .arities) (f .predicate) (c .declared)))
+leaf-back : (b : RuleSet) {t : Term} → Leaf b t → List·Memᴰ t (leaves b)
+leaf-back b leaf-star = star-leaf b
+leaf-back b (leaf-fixed {c} h) = fixed-leaf b c h
+
+leaf-is-published : (b : RuleSet) (t : Term) → List·Memᴰ t (leaves b) ↔ Leaf b t
+leaf-is-published b t = (λ m. to (leaves-mem b m), leaf-back b)
   where
-    to : List·Memᴰ f (critical 0 (b .arities)) → Critical b f
+    to : LeafOf b t → Leaf b t
+    to (inl e) = subst (Leaf b) (sym e) leaf-star
+    to (inr (c, h, e)) = subst (Leaf b) (sym e) (leaf-fixed h)
+
+pub critical-is-published : (b : RuleSet) (f : Fact) → List·Memᴰ f (critical (leaves b) 0 (b .arities)) ↔ Critical b f
+critical-is-published b f = (
+  to,
+  λ c.
+      subst (λ (p : ℕ). List·Memᴰ (record { predicate = p; arguments = f .arguments }) (critical (leaves b) 0 (b .arities))) (zero-add (f .predicate))
+      (mem-critical (leaves b) 0 (b .arities) (f .predicate) (f .arguments) (c .declared) (c .arity) (λ t m. leaf-is-published b t .1 (c .leaves t m))),
+)
+  where
+    to : List·Memᴰ f (critical (leaves b) 0 (b .arities)) → Critical b f
     to m =
-        let (i, h, e) = critical-mem 0 (b .arities) m in
-        let k : f .predicate ≡ i = ap (λ (g : Fact). g .predicate) e ∙ zero-add i in
-        record {
-          declared = rw k h;
-          stars = ap (λ (g : Fact). g .arguments) e ∙ ap (λ (j : ℕ). replicate (getD (b .arities) j 0) star) (sym k);
-        }
+        let (i, h, e, l, q) = critical-mem (leaves b) 0 (b .arities) m in
+        let k : f .predicate ≡ i = e ∙ zero-add i in
+        record { declared = rw k h; arity = l ∙ ap (λ (j : ℕ). getD (b .arities) j 0) (sym k); leaves = λ t n. leaf-is-published b t .0 (q t n) }
 
 -- a stage that has all its outputs has the whole set: what the test blocks is blocked
 pub dmfa-within : (b : RuleSet) (n : ℕ) → ((g : Fact) → List·Memᴰ g (outputsOf b n) → List·Memᴰ g (stage b n .facts)) → {f : Fact} → Dmfa b f
@@ -82,16 +106,24 @@ dmfa-within b n h (step {f} e m i t l c o) =
 
 -- no stage holds a cyclic term before an output shows one
 
-stage-zero-star : (b : RuleSet) {t : Term} → List·Memᴰ t (stage b 0 .terms) → t ≡ star
-stage-zero-star b {t} k = List·Memᴰ·eq-of-singleton (rw (stage-zero-terms b) at k)
-
 cyclic-star : (d : ℕ) → cyclic d star ≡ false
 unfolding cyclic functions any
 cyclic-star d = refl
 
+cyclic-fixed : (d c : ℕ) → cyclic d (fixed c) ≡ false
+unfolding cyclic functions any
+cyclic-fixed d c = refl
+
+cyclic-leaf : (d : ℕ) (b : RuleSet) {t : Term} → List·Memᴰ t (leaves b) → cyclic d t ≡ false
+cyclic-leaf d b {t} m = go (leaves-mem b m)
+  where
+    go : LeafOf b t → cyclic d t ≡ false
+    go (inl e) = ap (cyclic d) e ∙ cyclic-star d
+    go (inr (c, _, e)) = ap (cyclic d) e ∙ cyclic-fixed d c
+
 pub stage-acyclic : (d : ℕ) (b : RuleSet) (n : ℕ) → ((j : ℕ) → j < n → cyclicTerms d (entries b) (stage b j) ≡ []) → (f : Fact) → List·Memᴰ f (stage b n .facts)
     → (t : Term) → List·Memᴰ t (f .arguments) → cyclic d t ≡ false
-stage-acyclic d b zero none f k t m = ap (cyclic d) (stage-zero-star b (arguments-in-terms b 0 k m)) ∙ cyclic-star d
+stage-acyclic d b zero none f k t m = cyclic-leaf d b (rw (stage-zero-terms b) at (arguments-in-terms b 0 k m))
 stage-acyclic d b (suc n) none f k t m = go (λ i. stage-acyclic d b n (λ j h. none j (omega arith)) f i t m) (facts-from b n k)
   where
     go : (List·Memᴰ f (stage b n .facts) → cyclic d t ≡ false) → List·Memᴰ f (stage b n .facts) ⊎ List·Memᴰ f (outputsOf b n) → cyclic d t ≡ false
@@ -100,7 +132,7 @@ stage-acyclic d b (suc n) none f k t m = go (λ i. stage-acyclic d b n (λ j h. 
 
 pub reached-acyclic : {d : ℕ} (b : RuleSet) (n : ℕ) → Reached d b n → (t : Term) → List·Memᴰ t (stage b n .terms) → cyclic d t ≡ false
 reached-acyclic {d} b n r t k =
-    ⊎-elim (λ (e : t ≡ star). ap (cyclic d) e ∙ cyclic-star d)
+    ⊎-elim (λ (i : List·Memᴰ t (leaves b)). cyclic-leaf d b i)
     (λ (i : Named (stage b n .facts) t). stage-acyclic d b n (λ j h. r .passed j h .acyclic) (i .fact) (i .known) t (i .argument)) (terms-are-named b n k)
 
 -- what `cyclic` claims of its stage and of the term shown
@@ -117,10 +149,10 @@ abbrev pub Acyclic : ℕ → RuleSet → Type 0
 Acyclic d b = (g : Fact) → Dmfa b g → (u : Term) → List·Memᴰ u (g .arguments) → cyclic d u ≡ false
 
 module _ (b : RuleSet) (wf : WellFormed b) where
-  trigger-grounded : (n : ℕ) (e : Entry) (m : List Term) → List·Memᴰ m (triggersIn (stage b n) e) → (t : Term) → List·Memᴰ t m → Grounded t
-  trigger-grounded n e m k t i = proper-grounded (terms-proper b wf n (triggersIn-mem (stage b n) e k .0 .terms t i))
+  trigger-grounded : (n : ℕ) (e : Entry) (m : List Term) → List·Memᴰ m (triggersIn (stage b n) e) → ltb 2 (b .version) ≡ false → (t : Term) → List·Memᴰ t m → Grounded t
+  trigger-grounded n e m k older t i = terms-grounded b wf (older-unnamed wf older) n (triggersIn-mem (stage b n) e k .0 .terms t i)
 
-  -- only blockable rules need the blocking test: the others have no blocked trigger in the published sense
+  -- only blockable rules need the blocking test: the others have no blocked trigger in the published sense, before version 3 by theorem
   pub unblockable-free : (n : ℕ) (e : Entry) (m : List Term) → List·Memᴰ e (entries b) → blockable (e .rule) ≡ false
       → List·Memᴰ m (triggersIn (stage b n) e) → Blocked b e m → ⊥
   unblockable-free n e m i j k h = never-blocked wf i j m (triggersIn-mem (stage b n) e k .0 .total) (trigger-grounded n e m k) h
@@ -208,10 +240,11 @@ module _ (d : ℕ) (b : RuleSet) (wf : WellFormed b) where
   -- the last stage made before a refusal is within the set
   pub refused-within-dmfa : {n k : ℕ} → verdict d b ≡ refused n (suc k) → (f : Fact) → List·Memᴰ f (stage b k .facts) → Dmfa b f
   refused-within-dmfa {k = k} h =
-      let r = refused-says d b wf h in
-      let e = r .next in
-      let i : k ≡ r .last = omega arith in
-      rw i (reached-within-dmfa b wf (r .last) (r .reached))
+      go (refused-says d b wf h)
+    where
+      go : {n : ℕ} → Refused d b n (suc k) ⊎ Crowded b n (suc k) → (f : Fact) → List·Memᴰ f (stage b k .facts) → Dmfa b f
+      go (inl r) = let e = r .next in let i : k ≡ r .last = omega arith in rw i (reached-within-dmfa b wf (r .last) (r .reached))
+      go (inr c) = absurd (omega (arith, c .place))
 
   cause-few : (k : ℕ) {n : ℕ} → Cause d b k n → 13 ≤ n → tooMany (entries b) (stage b k) ≡ false
   cause-few k (large i) h = absurd (omega arith)
@@ -221,6 +254,8 @@ module _ (d : ℕ) (b : RuleSet) (wf : WellFormed b) where
 
   -- and so is the stage that is refused for its facts or terms
   pub refused-stage-within-dmfa : {n p : ℕ} → verdict d b ≡ refused n p → 13 ≤ n → (f : Fact) → List·Memᴰ f (stage b p .facts) → Dmfa b f
-  refused-stage-within-dmfa h i =
-      let r = refused-says d b wf h in
-      rw (r .next) (next-within-dmfa b wf (r .last) (r .reached) (cause-few (r .last) (r .cause) i))
+  refused-stage-within-dmfa {n} {p} h i = go (refused-says d b wf h)
+    where
+      go : Refused d b n p ⊎ Crowded b n p → (f : Fact) → List·Memᴰ f (stage b p .facts) → Dmfa b f
+      go (inl r) = rw (r .next) (next-within-dmfa b wf (r .last) (r .reached) (cause-few (r .last) (r .cause) i))
+      go (inr c) = rw (c .place) (stage-within-dmfa b wf 0 (λ j l. absurd (omega arith)))

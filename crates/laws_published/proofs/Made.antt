@@ -5,7 +5,7 @@ use mathlib.Core.Logic.{_↔_, _⊎_, inl, inr, ⊎-elim}
 use mathlib.Core.List.{List, map, List·Memᴰ, List·Memᴰ·head, List·Memᴰ·tail, List·Memᴰ·not-nil, List·Memᴰ·cases-cons, List·Memᴰ·append-cases, Memᴰ·append-left, Memᴰ·append-right}
 use Prim.Native.Nat.{ℕ}
 use Rattle.model.specs.Lists.{keep, collect, member}
-use Rattle.model.specs.Term.{Term, Terms, star, constant, apart, fresh, skolem, none, more, list}
+use Rattle.model.specs.Term.{Term, Terms, star, constant, fixed, apart, fresh, skolem, none, more, list}
 use Rattle.model.specs.Rules.{Rule, RuleSet, Disjunct, Entry, entries, frontier, owns}
 use Rattle.model.specs.Triggers.{Fact, assign, instantiate, headFacts}
 use Rattle.model.specs.Blocking.{template, origin, made, madeAll}
@@ -93,6 +93,7 @@ module _ (b : RuleSet) where
     made-sound : (t : Term) {g : Fact} → List·Memᴰ g (made t ds) → Made b t g
     made-sound star m = absurd (List·Memᴰ·not-nil m)
     made-sound (constant c) m = absurd (List·Memᴰ·not-nil m)
+    made-sound (fixed c) m = absurd (List·Memᴰ·not-nil m)
     made-sound (apart p) m = absurd (List·Memᴰ·not-nil m)
     made-sound (fresh t v) m = absurd (List·Memᴰ·not-nil m)
     made-sound (skolem f ts) {g} m =

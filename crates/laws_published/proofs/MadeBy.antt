@@ -3,20 +3,20 @@
 use mathlib.Core.Path.{_≡_, sym, _∙_, subst}
 use mathlib.Core.Bool.{true, false}
 use mathlib.Core.Logic.{_⊎_, inl, inr}
-use mathlib.Core.List.{map, List·Memᴰ, Memᴰ·cast}
-use Prim.Native.Nat.{ℕ, suc, _+_}
+use mathlib.Core.List.{List, map, List·Memᴰ, Memᴰ·cast}
+use Prim.Native.Nat.{ℕ, suc, _+_, _-_, _≤_}
 use native.Mathlib.Omega.{arith}
 use lib.Dec.{eqb}
 use Rattle.model.specs.Lists.{member, index}
-use Rattle.model.specs.Term.{Term, Terms, star, fresh, skolem, list, terms}
-use Rattle.model.specs.Rules.{Rule, RuleSet, Disjunct, inBody, frontier, existential}
+use Rattle.model.specs.Term.{Term, Terms, star, fixed, fresh, skolem, list, terms}
+use Rattle.model.specs.Rules.{Rule, RuleSet, Disjunct, variablesOf, inBody, frontier, existential}
 use Rattle.model.specs.Triggers.{Fact, assign, instantiate, headTerm, headFacts}
 use Rattle.model.specs.Published.{Template, Made, made-body, made-head, made-inner}
 use Rattle.laws.proofs.Bools.{case, not-both}
 use Rattle.laws.proofs.Lists.{member-mem, mem-member, map-mem}
 use Rattle.laws.proofs.Terms.{list-terms}
 use Rattle.laws.proofs.Rules.{universal-mem, frontier-mem}
-use Rattle.laws.proofs.Triggers.{assign-cases, instantiate-mem, body-mem, headTerm-universal, headTerm-existential, headFacts-mem}
+use Rattle.laws.proofs.Triggers.{BodyValue, Value, assign-cases, instantiate-mem, body-mem, headTerm-universal, headTerm-existential, headFacts-mem}
 use Rattle.laws_published.proofs.Rooted.{Rooted, rooted-not-star, rooted-not-fresh}
 use Rattle.laws_published.proofs.Subterms.{Inside, inside-argument, inside-deeper}
 
@@ -38,6 +38,9 @@ below-star t s h g us e x m w r = let z : _≡_ {A = ℕ} 0 1 = cc in absurd (om
 
 below-fresh : (t s u : Term) (v : ℕ) → s ≡ fresh u v → Below t s
 below-fresh t s u v h g us e x m w r = let z : _≡_ {A = ℕ} 0 1 = cc in absurd (omega arith)
+
+pub below-fixed : (t s : Term) (c : ℕ) → s ≡ fixed c → Below t s
+below-fixed t s c h g us e x m w r = let z : _≡_ {A = ℕ} 0 1 = cc in absurd (omega arith)
 
 module _ {f : ℕ} {ts : Terms} {r : Rule} {σ : ℕ → Term} (h : Template (skolem f ts) ts r σ) where
   template-cases : (v : ℕ) → inBody r v ≡ true → List·Memᴰ (σ v) (list ts) ⊎ ((σ v ≡ star) ⊎ (σ v ≡ fresh (skolem f ts) v))
@@ -73,7 +76,11 @@ module _ {f : ℕ} {ts : Terms} {r : Rule} {σ : ℕ → Term} (h : Template (sk
       template-inside v w x (universal-mem r (frontier-mem r n)) j q
 
   body-below : {g : Fact} {s : Term} → List·Memᴰ g (map (instantiate σ) (r .body)) → List·Memᴰ s (g .arguments) → Below (skolem f ts) s
-  body-below m k = let (v, i, e) = body-mem r σ m k in subst (Below (skolem f ts)) (sym e) (template-below v i)
+  body-below {s = s} m k = go (body-mem r σ m k)
+    where
+      go : BodyValue r σ s → Below (skolem f ts) s
+      go (inl (v, i, e)) = subst (Below (skolem f ts)) (sym e) (template-below v i)
+      go (inr (v, _, _, e)) = below-fixed (skolem f ts) s (v - 8) e
 
 module _ {f : ℕ} {ts : Terms} (d : Disjunct) {σ : ℕ → Term} (h : Template (skolem f ts) ts (d .rule) σ) where
   headTerm-below : (v : ℕ) → Below (skolem f ts) (headTerm d σ v)
@@ -87,8 +94,17 @@ module _ {f : ℕ} {ts : Terms} (d : Disjunct) {σ : ℕ → Term} (h : Template
   head-below : {g : Fact} {s : Term} → List·Memᴰ g (headFacts σ d) → List·Memᴰ s (g .arguments) → Below (skolem f ts) s
   head-below {s = s} m k =
       let (a, n, e) = headFacts-mem σ d m in
-      let (v, j, i) = instantiate-mem (headTerm d σ) a {s = s} (subst (λ (x : Fact). List·Memᴰ s (x .arguments)) e k) in
-      subst (Below (skolem f ts)) (sym i) (headTerm-below v)
+      go (instantiate-mem (headTerm d σ) a {s = s} (subst (λ (x : Fact). List·Memᴰ s (x .arguments)) e k))
+    where
+      go : {vs : List ℕ} → Value vs (headTerm d σ) s → Below (skolem f ts) s
+      go (inl (v, _, _, i)) = subst (Below (skolem f ts)) (sym i) (headTerm-below v)
+      go (inr (v, _, _, i)) = below-fixed (skolem f ts) s (v - 8) i
+
+-- nothing makes a constant of the rules
+pub made-not-fixed : {b : RuleSet} {t : Term} {g : Fact} {c : ℕ} → Made b t g → t ≡ fixed c → ⊥
+made-not-fixed (made-body d σ o h m) e = let z : _≡_ {A = ℕ} 0 1 = cc in omega arith
+made-not-fixed (made-head d σ o h m) e = let z : _≡_ {A = ℕ} 0 1 = cc in omega arith
+made-not-fixed (made-inner s k m) e = let z : _≡_ {A = ℕ} 0 1 = cc in omega arith
 
 pub made-below : {b : RuleSet} {t : Term} {g : Fact} → Made b t g → (s : Term) → List·Memᴰ s (g .arguments) → Below t s
 made-below (made-body d σ o h m) s k = body-below h m k

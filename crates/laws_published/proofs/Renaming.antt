@@ -9,12 +9,12 @@ use native.Mathlib.Omega.{arith}
 use lib.Dec.{eqb}
 use lib.ListN.{length, getD}
 use borrow.Author.Tests.{eqb-true, eqb-false}
-use Rattle.model.specs.Term.{Position, root, child, Term, Terms, star, constant, apart, fresh, skolem, none, more, list, functions}
+use Rattle.model.specs.Term.{Position, root, child, Term, Terms, star, constant, fixed, apart, fresh, skolem, none, more, list, functions, isFixed}
 use Rattle.model.specs.Rules.{Rule, universal}
 use Rattle.model.specs.Triggers.{assign}
 use Rattle.model.specs.Blocking.{rename, renameAll, renamed}
-use Rattle.model.specs.Published.{Substitution, Renamed, renamed-constant, renamed-skolem, Apart}
-use Rattle.laws.proofs.Bools.{case}
+use Rattle.model.specs.Published.{Substitution, Renamed, renamed-constant, renamed-fixed, renamed-skolem, Apart}
+use Rattle.laws.proofs.Bools.{case, not-both}
 use Rattle.laws.proofs.Lists.{mem-getD, getD-mem}
 use Rattle.laws.proofs.Terms.{ext-terms}
 use Rattle.laws.proofs.Rules.{universal-distinct}
@@ -44,17 +44,19 @@ renameAll-mem ts p k m =
 
 -- τ_v
 
-rename-constant : (t : Term) (p : Position) → functions t ≡ [] → apart p ≡ rename t p
-unfolding rename functions
-rename-constant star p e = refl
-rename-constant (constant c) p e = refl
-rename-constant (apart q) p e = refl
-rename-constant (fresh t v) p e = refl
-rename-constant (skolem f ts) p e = cc
+rename-constant : (t : Term) (p : Position) → functions t ≡ [] → isFixed t ≡ false → apart p ≡ rename t p
+unfolding rename functions isFixed
+rename-constant star p e h = refl
+rename-constant (constant c) p e h = refl
+rename-constant (fixed c) p e h = not-both true refl h
+rename-constant (apart q) p e h = refl
+rename-constant (fresh t v) p e h = refl
+rename-constant (skolem f ts) p e h = cc
 
 renamed-unique : {t s : Term} {p : Position} → Renamed t p s → s ≡ rename t p
 unfolding rename
-renamed-unique {t} {p = p} (renamed-constant n) = rename-constant t p n
+renamed-unique {t} {p = p} (renamed-constant n h) = rename-constant t p n h
+renamed-unique renamed-fixed = refl
 renamed-unique (renamed-skolem {f} {ts} {us} {p} l h) = go (λ k i. renamed-unique (h k i))
   where
     go : ((k : ℕ) → k < length (list ts) → getD (list us) k star ≡ rename (getD (list ts) k star) (child p k)) → skolem f us ≡ skolem f (renameAll ts p 0)
@@ -66,13 +68,14 @@ renamed-unique (renamed-skolem {f} {ts} {us} {p} l h) = go (λ k i. renamed-uniq
         below k (omega arith) ∙ sym (renameAll-at ts p 0 k (omega arith) ∙ ap (λ (j : ℕ). rename (getD (list ts) k star) (child p j)) (zero-add k))))
 
 mutual
-  unfolding rename renameAll list functions
+  unfolding rename renameAll list functions isFixed
 
   rename-renamed : (t : Term) (p : Position) → Renamed t p (rename t p)
-  rename-renamed star p = renamed-constant refl
-  rename-renamed (constant c) p = renamed-constant refl
-  rename-renamed (apart q) p = renamed-constant refl
-  rename-renamed (fresh t v) p = renamed-constant refl
+  rename-renamed star p = renamed-constant refl refl
+  rename-renamed (constant c) p = renamed-constant refl refl
+  rename-renamed (fixed c) p = renamed-fixed
+  rename-renamed (apart q) p = renamed-constant refl refl
+  rename-renamed (fresh t v) p = renamed-constant refl refl
   rename-renamed (skolem f ts) p =
       renamed-skolem (renameAll-length ts p 0)
       (λ k h. subst (λ (j : ℕ). Renamed (getD (list ts) k star) (child p j) (getD (list (renameAll ts p 0)) k star)) (zero-add k) (renameAll-renamed ts p 0 k h))

@@ -7,7 +7,7 @@ use native.Mathlib.Omega.{arith}
 use lib.ListN.{length, getD}
 use Rattle.model.specs.Lists.{collect}
 use Rattle.model.specs.Term.{Position, root, child, Term, Terms, star, constant, apart, fresh, skolem, list}
-use Rattle.model.specs.Published.{Renamed, renamed-constant, renamed-skolem}
+use Rattle.model.specs.Published.{Renamed, renamed-constant, renamed-fixed, renamed-skolem}
 use Rattle.laws.proofs.Lists.{mem-getD, getD-mem, collect-mem}
 use Rattle.laws_published.proofs.Subterms.{subterms, skolem-cases, Inside, inside-subterm}
 
@@ -45,7 +45,7 @@ pub rooted-not-fresh : {w : ℕ} {t s : Term} {v : ℕ} → Rooted w t → t ≡
 rooted-not-fresh (leaf p e) h = let z : _≡_ {A = ℕ} 0 1 = cc in omega arith
 rooted-not-fresh (node i t k) h = let z : _≡_ {A = ℕ} 0 1 = cc in omega arith
 
--- every Skolem function has an argument
+-- every Skolem function has an argument, and no constant of the rules stands in the term
 pub data Grounded : Term → Type 0 where
   grounded-star : Grounded star
   grounded-constant : {c : ℕ} → Grounded (constant c)
@@ -55,7 +55,7 @@ pub data Grounded : Term → Type 0 where
 
 pub renamed-rooted : {t s : Term} {p : Position} {w : ℕ} → Grounded t → Renamed t p s → rootOf p ≡ w → Rooted w s
 unfolding rootOf
-renamed-rooted g (renamed-constant {p = p} n) e = leaf p e
+renamed-rooted g (renamed-constant {p = p} n h) e = leaf p e
 renamed-rooted {w = w} (grounded-skolem some h) (renamed-skolem {f} {ts} {us} {p} l k) e =
     go (λ i j. renamed-rooted (h (getD (list ts) i star) (getD-mem (list ts) i star j)) (k i j) e)
   where

@@ -1,18 +1,19 @@
 -- What `testBase` computes is the published set that the Datalog rules close: a trigger's body and Fₜ of its terms. Assumes nothing.
 use mathlib.Core.Path.{_≡_}
-use mathlib.Core.Logic.{_↔_, ⊎-elim}
+use mathlib.Core.Bool.{true}
+use mathlib.Core.Logic.{_↔_, _⊎_, inl, inr, ⊎-elim}
 use mathlib.Core.List.{List, [], _++_, map, List·Memᴰ, List·Memᴰ·not-nil, List·Memᴰ·append-cases, Memᴰ·append-left, Memᴰ·append-right, Memᴰ·cast}
-use Prim.Native.Nat.{ℕ}
-use Rattle.model.specs.Lists.{collect}
-use Rattle.model.specs.Term.{Term, star}
-use Rattle.model.specs.Rules.{Rule, RuleSet, entries, universal}
+use Prim.Native.Nat.{ℕ, _-_, _≤_}
+use Rattle.model.specs.Lists.{collect, extend}
+use Rattle.model.specs.Term.{Term, star, fixed}
+use Rattle.model.specs.Rules.{Rule, RuleSet, entries, variablesOf, inBody, universal}
 use Rattle.model.specs.Triggers.{Fact, sameFact, assign, instantiate}
 use Rattle.model.specs.Blocking.{made, testBase}
 use Rattle.model.specs.Published.{Substitution, TestBase, base-body, base-made}
 use Rattle.laws.proofs.Lists.{map-mem, collect-mem, mem-collect, extend-mem, extend-right}
 use Rattle.laws.proofs.Facts.{sameFact-decides}
 use Rattle.laws.proofs.Rules.{universal-mem, universal-distinct}
-use Rattle.laws.proofs.Triggers.{assign-all, assign-cases, body-argument, body-mem}
+use Rattle.laws.proofs.Triggers.{BodyValue, assign-all, assign-cases, body-argument, body-mem}
 use Rattle.laws.proofs.Owners.{disjunctsOf}
 use Rattle.laws_published.proofs.Made.{made-is-published}
 
@@ -20,6 +21,10 @@ use Rattle.laws_published.proofs.Made.{made-is-published}
 made-star : (b : RuleSet) {g : Fact} → List·Memᴰ g (made star (disjunctsOf (entries b))) → ⊥
 unfolding made
 made-star b m = List·Memᴰ·not-nil m
+
+made-fixed : (b : RuleSet) (c : ℕ) {g : Fact} → List·Memᴰ g (made (fixed c) (disjunctsOf (entries b))) → ⊥
+unfolding made
+made-fixed b c m = List·Memᴰ·not-nil m
 
 module _ (b : RuleSet) (r : Rule) (u : List Term) (sub : Substitution r u) where
   abbrev σ : ℕ → Term
@@ -50,8 +55,13 @@ module _ (b : RuleSet) (r : Rule) (u : List Term) (sub : Substitution r u) where
   unfolding testBase
   testBase-complete {g} (base-body m) = extend-right sameFact sameFact-decides [] (Memᴰ·append-left (collect makers u) m)
   testBase-complete {g} (base-made t i k h) =
-      let (v, n, e) = body-mem r σ i k in
-      extend-right sameFact sameFact-decides [] (Memᴰ·append-right (map (instantiate σ) (r .body)) (base-makers t v e (made-is-published b t g .1 h)))
+      go (body-mem r σ i k)
+    where
+      go : BodyValue r σ t
+          → List·Memᴰ g (extend sameFact [] (map (instantiate σ) (r .body) ++ collect makers u))
+      go (inl (v, n, e)) =
+          extend-right sameFact sameFact-decides [] (Memᴰ·append-right (map (instantiate σ) (r .body)) (base-makers t v e (made-is-published b t g .1 h)))
+      go (inr (v, _, _, e)) = absurd (made-fixed b (v - 8) (rw e at (made-is-published b t g .1 h)))
 
   pub testBase-is-published : (g : Fact) → List·Memᴰ g (testBase (entries b) r u) ↔ TestBase b r (assign (universal r) u) g
   testBase-is-published g = (testBase-sound, testBase-complete)

@@ -27,7 +27,7 @@ module _ (d e : ℕ) (h : d ≤ e) (b : RuleSet) where
       record { small = p .small; few = p .few; acyclic = cyclicTerms-deeper n (p .acyclic); facts = p .facts; terms = p .terms }
 
   pub reached-deeper : (n : ℕ) → Reached d b n → Reached e b n
-  reached-deeper n r = record { passed = λ j i. passed-deeper j (r .passed j i); grew = r .grew }
+  reached-deeper n r = record { begins = r .begins; passed = λ j i. passed-deeper j (r .passed j i); grew = r .grew }
 
   accepted-stage : {n f t : ℕ} → Accepted d b n f t → Accepted e b n f t
   accepted-stage {n} a =

@@ -1,4 +1,5 @@
 pub mod Outputs
+pub mod Tuples
 pub mod Growth
 pub mod Arities
 pub mod Order

@@ -3,29 +3,31 @@
 use mathlib.Core.Path.{_≡_, refl, sym, ap, _∙_, subst}
 use mathlib.Core.Bool.{true, false}
 use mathlib.Core.Logic.{_⊎_, inl, inr, ⊎-elim}
-use mathlib.Core.List.{List, [], _∷_, _++_, map, List·Memᴰ, List·Memᴰ·head, List·Memᴰ·tail, Memᴰ·append-left, Memᴰ·append-right, List·Memᴰ·eq-of-singleton}
-use Prim.Native.Nat.{ℕ, zero, suc, _+_, _≤_, _<_}
+use mathlib.Core.List.{List, [], _∷_, _++_, map, List·Memᴰ, List·Memᴰ·head, List·Memᴰ·tail, Memᴰ·append-left, Memᴰ·append-right, Memᴰ·cast}
+use Prim.Native.Nat.{ℕ, zero, suc, _+_, _-_, _≤_, _<_}
 use native.Mathlib.Omega.{arith}
 use lib.Dec.{eqb}
 use lib.ListN.{length, getD, take, drop, length-map, length-take}
 use lib.Seq.{split-at}
 use borrow.Author.Tests.{not-false}
 use Rattle.model.specs.Lists.{any, index}
-use Rattle.model.specs.Term.{Term, Terms, star, skolem, list, terms, same}
+use Rattle.model.specs.Term.{Term, Terms, star, fixed, skolem, list, terms, same}
 use Rattle.model.specs.Rules.{Atom, Rule, RuleSet, Disjunct, Entry, entries, variablesOf, inBody, universal, frontier, existential, detached}
 use Rattle.model.specs.WellFormed.{WellFormedRule, WellFormed}
 use Rattle.model.specs.Triggers.{Fact, termsOf, assign, instantiate, headTerm}
-use Rattle.model.specs.Stages.{triggersIn, stage}
+use Rattle.model.specs.Stages.{leaves, triggersIn, stage}
 use Rattle.laws.proofs.Bools.{case}
 use Rattle.laws.proofs.Lists.{any-mem, any-false, map-mem, extend-mem, index-mem, index-append, mem-length}
 use Rattle.laws.proofs.Terms.{same-decides, list-terms}
 use Rattle.laws.proofs.Facts.{termsOf-mem}
 use Rattle.laws.proofs.Rules.{entries-mem, mem-variablesOf, mem-universal, mem-frontier, frontier-mem, mem-existential, frontier-few}
-use Rattle.laws.proofs.Triggers.{Assignment, assign-mem, headTerm-universal, headTerm-existential, headFacts-mem, output-mem, triggers-mem}
-use Rattle.laws.proofs.WellFormed.{variable-range}
-use Rattle.laws.proofs.Prefixes.{Prefix}
+use Rattle.laws.proofs.Triggers.{Assignment, Value, instantiate-mem, assign-mem, headTerm-universal, headTerm-existential, headFacts-mem, output-mem, triggers-mem}
+use Rattle.laws.proofs.WellFormed.{variable-range, constant-declared}
+use Rattle.laws.proofs.Prefixes.{Prefix, prefix-mem}
 use Rattle.laws_stages.proofs.Outputs.{Fires, outputs-mem}
-use Rattle.laws_stages.proofs.Growth.{outputsOf, stage-zero-terms, stage-suc-terms, terms-grow-once, facts-from, arguments-in-terms}
+use Rattle.laws_stages.proofs.Tuples.{LeafOf, leaves-mem, fixed-leaf}
+use Rattle.laws_stages.proofs.Arities.{disjunct-well-formed}
+use Rattle.laws_stages.proofs.Growth.{leaves-first, outputsOf, stage-zero-terms, stage-suc-terms, terms-grow-once, facts-from, arguments-in-terms}
 
 -- the frontier of a well-formed rule has a variable
 
@@ -118,7 +120,7 @@ module _ (b : RuleSet) (w : WellFormed b) (ts m : List Term) (e : Entry) (i : Li
 -- an argument of an output is a term of the stage, or a Skolem term over terms of the stage
 pub outputs-terms : (b : RuleSet) → WellFormed b → (n : ℕ) {f : Fact} {t : Term} → List·Memᴰ f (outputsOf b n) → List·Memᴰ t (f .arguments)
     → List·Memᴰ t (stage b n .terms) ⊎ Invented (entries b) (stage b n .terms) t
-unfolding instantiate triggersIn
+unfolding triggersIn
 outputs-terms b w n {f} {t} m k = go (outputs-mem (entries b) (stage b n) m)
   where
     ts : List Term
@@ -129,9 +131,14 @@ outputs-terms b w n {f} {t} m k = go (outputs-mem (entries b) (stage b n) m)
         → List·Memᴰ t ts ⊎ Invented (entries b) ts t
     atom h d i (a, j, p) =
         let τ = headTerm d (assign (universal (h .entry .rule)) (h .terms)) in
-        let (v, l, g) = map-mem τ (a .variables) (subst (λ (x : Fact). List·Memᴰ t (x .arguments)) p k) in
-        subst (λ (u : Term). List·Memᴰ u ts ⊎ Invented (entries b) ts u) (sym g)
-        (head-terms b w ts (h .terms) (h .entry) (h .known) (triggers-mem (h .entry .rule) ts (stage b n .facts) (h .trigger) .0) d i v (mem-variablesOf j l))
+        value (instantiate-mem τ a {s = t} (subst (λ (x : Fact). List·Memᴰ t (x .arguments)) p k))
+      where
+        value : Value (a .variables) (headTerm d (assign (universal (h .entry .rule)) (h .terms))) t → List·Memᴰ t ts ⊎ Invented (entries b) ts t
+        value (inl (v, _, l, g)) =
+            subst (λ (u : Term). List·Memᴰ u ts ⊎ Invented (entries b) ts u) (sym g)
+            (head-terms b w ts (h .terms) (h .entry) (h .known) (triggers-mem (h .entry .rule) ts (stage b n .facts) (h .trigger) .0) d i v (mem-variablesOf j l))
+        value (inr (v, r, l, g)) =
+            inl (prefix-mem (leaves-first b n) (Memᴰ·cast g (fixed-leaf b (v - 8) (constant-declared (disjunct-well-formed b w (h .known) i j) r l (b .fixed)))))
 
     go : Fires (entries b) (stage b n) f → List·Memᴰ t ts ⊎ Invented (entries b) ts t
     go h =
@@ -154,9 +161,10 @@ terms-from b w n {t} m = go (extend-mem same (stage b n .terms) (termsOf (stage 
     go (inl i) = inl i
     go (inr i) = let (f, j, k) = termsOf-mem (stage b (suc n) .facts) i in named f k (facts-from b n j)
 
--- ⋆, or a Skolem term over one to eight such terms: no constant, renamed or fresh constant anywhere
+-- ⋆, a constant of the rules, or a Skolem term over one to eight such terms: no other constant, renamed or fresh constant anywhere
 pub data Proper : Term → Type 0 where
   proper-star : Proper star
+  proper-fixed : {c : ℕ} → Proper (fixed c)
   proper-skolem : {f : ℕ} {ts : Terms} → 1 ≤ f → 1 ≤ length (list ts) → length (list ts) ≤ 8 → ((t : Term) → List·Memᴰ t (list ts) → Proper t)
       → Proper (skolem f ts)
 
@@ -165,10 +173,30 @@ invented-proper h i =
     subst (λ (u : Term). Proper u) (sym (i .term)) (proper-skolem (omega arith) (i .some) (i .few) (λ u m. h u (i .old u m)))
 
 pub terms-proper : (b : RuleSet) → WellFormed b → (n : ℕ) {t : Term} → List·Memᴰ t (stage b n .terms) → Proper t
-terms-proper b w zero m = subst (λ (u : Term). Proper u) (sym (List·Memᴰ·eq-of-singleton (rw (stage-zero-terms b) at m))) proper-star
+terms-proper b w zero {t} m = go (leaves-mem b (rw (stage-zero-terms b) at m))
+  where
+    go : LeafOf b t → Proper t
+    go (inl e) = subst (λ (u : Term). Proper u) (sym e) proper-star
+    go (inr (c, _, e)) = subst (λ (u : Term). Proper u) (sym e) proper-fixed
 terms-proper b w (suc n) {t} m =
     ⊎-elim (λ (i : List·Memᴰ t (stage b n .terms)). terms-proper b w n i)
     (λ (i : Invented (entries b) (stage b n .terms) t). invented-proper (λ u k. terms-proper b w n k) i) (terms-from b w n m)
+
+-- a constant of the rules among them is declared
+pub fixed-declared : (b : RuleSet) → WellFormed b → (n : ℕ) {c : ℕ} → List·Memᴰ (fixed c) (stage b n .terms) → c < b .fixed
+fixed-declared b w zero {c} m = go (leaves-mem b (rw (stage-zero-terms b) at m))
+  where
+    go : LeafOf b (fixed c) → c < b .fixed
+    go (inl e) = let z : _≡_ {A = ℕ} 0 1 = cc in absurd (omega arith)
+    go (inr (i, h, e)) = let q : c ≡ i = cc in omega arith
+fixed-declared b w (suc n) {c} m = go (λ k. fixed-declared b w n k) (terms-from b w n m)
+  where
+    go : (List·Memᴰ (fixed c) (stage b n .terms) → c < b .fixed) → List·Memᴰ (fixed c) (stage b n .terms) ⊎ Invented (entries b) (stage b n .terms) (fixed c) → c < b .fixed
+    go below (inl k) = below k
+    go below (inr i) = let p = i .term in let z : _≡_ {A = ℕ} 0 1 = cc in absurd (omega arith)
+
+pub fixed-none : (b : RuleSet) → WellFormed b → (n c : ℕ) → List·Memᴰ (fixed c) (stage b n .terms) → ⊥
+fixed-none b w n c m = let h = fixed-declared b w n m in omega (arith, w .unnamed)
 
 -- each Skolem term's arguments stand before it
 abbrev pub Ordered : List Term → Type 0
@@ -217,10 +245,12 @@ invented-old {ts = ts} {as' = as'} i t k =
 pub terms-ordered : (b : RuleSet) → WellFormed b → (n : ℕ) → Ordered (stage b n .terms)
 terms-ordered b w zero = rw (stage-zero-terms b) alone
   where
-    alone : Ordered (star ∷ [])
-    alone [] f as' vs e t k = let z : _≡_ {A = ℕ} 0 1 = cc in absurd (omega arith)
-    alone (u ∷ []) f as' vs e t k = let z : _≡_ {A = ℕ} 0 1 = cc in absurd (omega arith)
-    alone (u ∷ u′ ∷ us) f as' vs e t k = let z : _≡_ {A = ℕ} 0 1 = cc in absurd (omega arith)
+    no-skolem : {f : ℕ} {as' : Terms} → LeafOf b (skolem f as') → ⊥
+    no-skolem (inl e) = let z : _≡_ {A = ℕ} 0 1 = cc in omega arith
+    no-skolem (inr (c, _, e)) = let z : _≡_ {A = ℕ} 0 1 = cc in omega arith
+
+    alone : Ordered (leaves b)
+    alone us f as' vs e t k = absurd (no-skolem (leaves-mem b (subst (λ (l : List Term). List·Memᴰ (skolem f as') l) (sym e) (Memᴰ·append-right us (List·Memᴰ·head refl)))))
 terms-ordered b w (suc n) = go (terms-ordered b w n) (terms-grow-once b n)
   where
     old : Ordered (stage b n .terms) → (f : ℕ) (as' : Terms) → List·Memᴰ (skolem f as') (stage b (suc n) .terms) → (t : Term) → List·Memᴰ t (list as')

@@ -96,12 +96,12 @@ module _ {d : ℕ} {b : RuleSet} {v : Verdict} {n f t : ℕ} {more : List Term} 
         facts-length = facts-length (h .records) (h .within) v terms₀ facts₀ (l .facts);
       })
 
-  held-bounded : (w : ℕ) → 2048 ≤ w → Bounded w terms₀ facts₀ → Bounded w (left d b v terms₀ facts₀ .terms) (left d b v terms₀ facts₀ .facts)
+  held-bounded : (w : ℕ) → 60003 ≤ w → Bounded w terms₀ facts₀ → Bounded w (left d b v terms₀ facts₀ .terms) (left d b v terms₀ facts₀ .facts)
   held-bounded w l k =
       subst (λ (c : Checked). Bounded w (c .terms) (c .facts)) (sym (h .tables terms₀ facts₀))
       (record {
         terms = terms-small (h .records) (h .within) v terms₀ facts₀ w l (k .terms);
-        facts = facts-small (h .records) (h .within) v terms₀ facts₀ w l (k .facts);
+        facts = facts-small (h .records) (h .within) v terms₀ facts₀ w (omega arith) (k .facts);
       })
 
 refused-kept : (d : ℕ) (b : RuleSet) (n p : ℕ) (terms₀ facts₀ : List ℕ) → Fronts terms₀ facts₀ → Kept terms₀ facts₀ (left d b (refused n p) terms₀ facts₀)
@@ -129,7 +129,7 @@ module _ (d : ℕ) (b : RuleSet) (w : WellFormed b) (terms₀ facts₀ : List �
   left-kept l (cyclicAt n f t) e = held-kept (cyclicAt-held d b w e) terms₀ facts₀ l
   left-kept l (refused n p) e = refused-kept d b n p terms₀ facts₀ l
 
-  pub left-bounded : (c : ℕ) → 2048 ≤ c → Bounded c terms₀ facts₀ → (v : Verdict) → verdict d b ≡ v
+  pub left-bounded : (c : ℕ) → 60003 ≤ c → Bounded c terms₀ facts₀ → (v : Verdict) → verdict d b ≡ v
       → Bounded c (left d b v terms₀ facts₀ .terms) (left d b v terms₀ facts₀ .facts)
   left-bounded c l k (accepted n f t) e = held-bounded (accepted-held d b w e) terms₀ facts₀ c l k
   left-bounded c l k (cyclicAt n f t) e = held-bounded (cyclicAt-held d b w e) terms₀ facts₀ c l k
@@ -150,8 +150,8 @@ checked-kept d bytes terms₀ facts₀ = go (course d bytes terms₀ facts₀)
     go (faulty n p i j h a r e) = same e
     go (judged b i h a r e) = subst (λ (c : Checked). Kept terms₀ facts₀ c) (sym e) (left-kept d b (read-well-formed bytes b i r) terms₀ facts₀ h (verdict d b) refl)
 
--- tables without a number above 65,535, or any bound from 2,048 on, are left so
-pub checked-bounded : (d : ℕ) (bytes terms₀ facts₀ : List ℕ) (w : ℕ) → 2048 ≤ w → Bounded w terms₀ facts₀
+-- tables without a number above 65,535, or any bound from 60,003 on, are left so
+pub checked-bounded : (d : ℕ) (bytes terms₀ facts₀ : List ℕ) (w : ℕ) → 60003 ≤ w → Bounded w terms₀ facts₀
     → Bounded w (checked d bytes terms₀ facts₀ .terms) (checked d bytes terms₀ facts₀ .facts)
 checked-bounded d bytes terms₀ facts₀ w l k = go (course d bytes terms₀ facts₀)
   where

@@ -1,22 +1,22 @@
--- The records of a stage within the limits fit the fronts of the tables, no number in them is above 2,048, and the lines of the text show them.
--- Assumes nothing.
-use mathlib.Core.Path.{_≡_, refl, ap, _∙_, subst}
+-- The records of a stage within the limits fit the fronts of the tables, and no number is above 60,003 in those of terms, or above 2,048 in those
+-- of facts. Assumes nothing.
+use mathlib.Core.Path.{_≡_, ap, _∙_}
 use mathlib.Core.Logic.{_⊎_, inl, inr, ⊎-elim}
-use mathlib.Core.List.{List, _∷_, _++_, map, List·Memᴰ, List·Memᴰ·cases-cons}
-use Prim.Native.Nat.{ℕ, _≤_, _<_}
+use mathlib.Core.List.{List, [], _∷_, _++_, map, List·Memᴰ, List·Memᴰ·cases-cons, List·Memᴰ·eq-of-singleton}
+use Prim.Native.Nat.{ℕ, _+_, _≤_, _<_}
 use native.Mathlib.Omega.{arith}
 use lib.ListN.{length, take, drop, length-append}
 use Rattle.model.specs.Lists.{padded}
-use Rattle.model.specs.Term.{Term, Terms, star, skolem, list}
+use Rattle.model.specs.Term.{Term, Terms, star, fixed, skolem, list}
 use Rattle.model.specs.Triggers.{Fact}
 use Rattle.model.specs.Stages.{Stage, Verdict}
-use Rattle.model.specs.Limits.{termsFront, factsFront}
+use Rattle.model.specs.Limits.{fixedMark, termsFront, factsFront}
 use Rattle.model.specs.Tables.{Checked, number, termRow, factRow, recorded}
 use Rattle.laws.proofs.Lists.{collect-mem, map-mem, mem-replicate}
 use Rattle.laws_format.proofs.Lists.{length-collect}
 use Rattle.laws_tables.proofs.Rows.{length-fronted, take-fronted, drop-fronted, padded-mem, fronted-within}
 use Rattle.laws_tables.proofs.Numbering.{number-below}
-use Rattle.laws_tables.proofs.Terms.{Recordable as RecordableTerm, plain, marked, length-termRow, recordable-mem}
+use Rattle.laws_tables.proofs.Terms.{Recordable as RecordableTerm, plain, known, marked, length-termRow, recordable-mem}
 use Rattle.laws_tables.proofs.Facts.{Recordable, length-factRow}
 use Rattle.laws_tables.proofs.Recorded.{Recorded, termRecords, factRecords, recorded-terms, recorded-facts}
 
@@ -26,23 +26,26 @@ pub record Within (s : Stage) (us : List Term) : Type 0 where
   pub more : length us ≤ 1
   pub facts : length (s .facts) ≤ 2048
   pub functions : (f : ℕ) (as' : Terms) → List·Memᴰ (skolem f as') (s .terms ++ us) → f ≤ 2048
+  pub names : (c : ℕ) → List·Memᴰ (fixed c) (s .terms ++ us) → c < 3
   pub predicates : (f : Fact) → List·Memᴰ f (s .facts) → f .predicate < 1024
 
-termRow-within : {ts : List Term} {i : ℕ} {t : Term} → RecordableTerm (λ j. star) ts i t → length ts ≤ 512
-    → ((f : ℕ) (as' : Terms) → t ≡ skolem f as' → f ≤ 2048) → (x : ℕ) → List·Memᴰ x (termRow ts t) → x ≤ 2048
+termRow-within : {ts : List Term} {i : ℕ} {t : Term} → RecordableTerm (λ j. star) ts i t → length ts ≤ 512 → (x : ℕ) → List·Memᴰ x (termRow ts t) → x ≤ 60003
 unfolding termRow
-termRow-within (plain e k) l h x m = let z : x ≡ 0 = mem-replicate 10 (rw e at m) in omega arith
-termRow-within {ts} (marked {f} {us = as'} p q ms) l h x m = go (padded-mem 10 (f ∷ length (list as') ∷ map (number ts) (list as')) m)
+termRow-within (plain e k) l x m = let z : x ≡ 0 = mem-replicate 10 (rw e at m) in omega arith
+termRow-within (known {n} h) l x m =
+    ⊎-elim (λ (k : List·Memᴰ x ((fixedMark + n) ∷ [])). let e = List·Memᴰ·eq-of-singleton k in omega arith) (λ (e : x ≡ 0). omega arith)
+    (padded-mem 10 ((fixedMark + n) ∷ []) m)
+termRow-within {ts} (marked {f} {us = as'} p b q ms) l x m = go (padded-mem 10 (f ∷ length (list as') ∷ map (number ts) (list as')) m)
   where
-    argument : List·Memᴰ x (map (number ts) (list as')) → x ≤ 2048
+    argument : List·Memᴰ x (map (number ts) (list as')) → x ≤ 60003
     argument k =
         let (a, i, e) = map-mem (number ts) (list as') k in
         let n = number-below a (ms a i .0) in
         omega arith
 
-    go : List·Memᴰ x (f ∷ length (list as') ∷ map (number ts) (list as')) ⊎ (x ≡ 0) → x ≤ 2048
+    go : List·Memᴰ x (f ∷ length (list as') ∷ map (number ts) (list as')) ⊎ (x ≡ 0) → x ≤ 60003
     go (inl k) =
-        ⊎-elim (λ (e : x ≡ f). let n = h f as' refl in omega arith)
+        ⊎-elim (λ (e : x ≡ f). omega arith)
         (λ (i : List·Memᴰ x (length (list as') ∷ map (number ts) (list as'))).
         ⊎-elim (λ (e : x ≡ length (list as')). omega arith) (λ (j : List·Memᴰ x (map (number ts) (list as'))). argument j) (List·Memᴰ·cases-cons i))
         (List·Memᴰ·cases-cons k)
@@ -97,18 +100,15 @@ module _ {arities : List ℕ} {s : Stage} {us : List Term} (h : Recorded arities
     pub facts-length : factsFront ≤ length facts₀ → length (left .facts) ≡ length facts₀
     facts-length k = ap length (recorded-facts v s us terms₀ facts₀) ∙ length-fronted factsFront (factRecords s) facts₀ facts-fit k
 
-    -- no number of a record is above 2,048, so tables of 16-bit numbers stay such
-    pub terms-small : (c : ℕ) → 2048 ≤ c → ((x : ℕ) → List·Memᴰ x terms₀ → x ≤ c) → (x : ℕ) → List·Memᴰ x (left .terms) → x ≤ c
+    -- no number of a record is above 60,003, so tables of 16-bit numbers stay such
+    pub terms-small : (c : ℕ) → 60003 ≤ c → ((x : ℕ) → List·Memᴰ x terms₀ → x ≤ c) → (x : ℕ) → List·Memᴰ x (left .terms) → x ≤ c
     terms-small c l k x m =
         fronted-within c termsFront (termRecords s us) terms₀ record-small k x (rw (recorded-terms v s us terms₀ facts₀) at m)
       where
         record-small : (x : ℕ) → List·Memᴰ x (termRecords s us) → x ≤ c
         record-small x m =
             let (t, i, j) = collect-mem (termRow (s .terms)) (s .terms ++ us) m in
-            let n =
-            termRow-within (recordable-mem (λ j. star) (s .terms) us (h .terms) i) (w .terms)
-            (λ f as' e. w .functions f as' (subst (λ (y : Term). List·Memᴰ y (s .terms ++ us)) e i)) x j
-            in
+            let n = termRow-within (recordable-mem (λ j. star) (s .terms) us (h .terms) i) (w .terms) x j in
             omega arith
 
     pub facts-small : (c : ℕ) → 2048 ≤ c → ((x : ℕ) → List·Memᴰ x facts₀ → x ≤ c) → (x : ℕ) → List·Memᴰ x (left .facts) → x ≤ c

@@ -111,4 +111,4 @@ judge-excessive d (suc k) es n s =
 
 pub verdict-excessive : (d : ℕ) (b : RuleSet) → Excessive (verdict d b)
 unfolding verdict
-verdict-excessive d b = judge-excessive d 2049 (entries b) 0 (stage b 0)
+verdict-excessive d b = if-excessive (ltb 2048 (length (stage b 0 .facts))) _ _ (omega arith) (judge-excessive d 2049 (entries b) 0 (stage b 0))

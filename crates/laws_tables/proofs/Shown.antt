@@ -1,13 +1,14 @@
--- What the lines of the text show of the records of a stage: Skolem functions of at most four digits, predicates of two, term numbers of three.
--- Assumes nothing.
+-- What the lines of the text show of the records of a stage: Skolem functions and predicates of at most four digits, term numbers of three, and
+-- constants of the rules of five. Assumes nothing.
 use mathlib.Core.Path.{_≡_, refl, sym, ap, _∙_, subst}
 use mathlib.Core.List.{List, [], _∷_, _++_, map, List·Memᴰ, List·Memᴰ·not-nil}
-use Prim.Native.Nat.{ℕ, suc, _-_, _^_, _≤_, _<_}
+use Prim.Native.Nat.{ℕ, suc, _+_, _-_, _^_, _≤_, _<_}
 use native.Mathlib.Omega.{arith}
 use lib.ListN.{length, getD, take, drop, replicate, length-map, length-append}
 use lib.Seq.{take-at}
+use Rattle.model.specs.Limits.{fixedMark}
 use Rattle.model.specs.Lists.{padded, row}
-use Rattle.model.specs.Term.{Term, Terms, star, skolem, list}
+use Rattle.model.specs.Term.{Term, star, list}
 use Rattle.model.specs.Triggers.{Fact}
 use Rattle.model.specs.Stages.{Stage, Verdict}
 use Rattle.model.specs.Tables.{number, termRow, factRow, recorded}
@@ -15,7 +16,7 @@ use Rattle.model.specs.Text.{termNumbers, factNumbers}
 use Rattle.laws.proofs.Lists.{map-mem, getD-mem}
 use Rattle.laws_tables.proofs.Rows.{row-collect}
 use Rattle.laws_tables.proofs.Numbering.{number-below}
-use Rattle.laws_tables.proofs.Terms.{Recordable, plain, marked, row-table}
+use Rattle.laws_tables.proofs.Terms.{Recordable, plain, known, marked, row-table}
 use Rattle.laws_tables.proofs.Facts.{Recordable as RecordableFact, length-factRow}
 use Rattle.laws_tables.proofs.Recorded.{Recorded, terms-begin, facts-begin}
 use Rattle.laws_tables.proofs.Fronts.{Within}
@@ -34,21 +35,24 @@ numbers-small ts l us h x m =
     let n = number-below a (h a i) in
     omega arith
 
-shownTerm-line : {ts : List Term} {i : ℕ} {t : Term} → Recordable (λ j. star) ts i t → length ts ≤ 512
-    → ((f : ℕ) (as' : Terms) → t ≡ skolem f as' → f ≤ 2048) → TermLine (shownTerm (termRow ts t))
+-- a number without arguments
+alone : {ns : List ℕ} (f d : ℕ) → ns ≡ f ∷ [] → f < 10 ^ suc d → d ≤ 35 → TermLine ns
+alone f d e h l = record { function = f; arguments = []; whole = e; rest = d; function-small = h; short = omega arith; small = λ n m. absurd (List·Memᴰ·not-nil m) }
+
+shownTerm-line : {ts : List Term} {i : ℕ} {t : Term} → Recordable (λ j. star) ts i t → length ts ≤ 512 → TermLine (shownTerm (termRow ts t))
 unfolding termRow padded
-shownTerm-line (plain e k) l h =
-    record { function = 0; arguments = []; whole = ap shownTerm e; function-small = omega arith; few = omega arith; small = λ n m. absurd (List·Memᴰ·not-nil m) }
-shownTerm-line {ts} (marked {f} {us = as'} p q ms) l h =
-    let n = h f as' refl in
+shownTerm-line (plain e k) l = alone 0 0 (ap shownTerm e) (omega arith) (omega arith)
+shownTerm-line (known {n} h) l = alone (fixedMark + n) 4 refl (omega arith) (omega arith)
+shownTerm-line {ts} (marked {f} {us = as'} p b q ms) l =
     record {
       function = f;
       arguments = map (number ts) (list as');
       whole =
           ap (λ (xs : List ℕ). f ∷ xs)
           (take-at (map (number ts) (list as')) (replicate (10 - suc (suc (length (map (number ts) (list as'))))) 0) (length (list as')) (length-map (list as') (number ts)));
+      rest = 3;
       function-small = omega arith;
-      few = rw (length-map (list as') (number ts)) q;
+      short = rw (length-map (list as') (number ts)) (omega arith);
       small = numbers-small ts l (list as') (λ a m. ms a m .0);
     }
 
@@ -76,7 +80,7 @@ module _ {arities : List ℕ} {s : Stage} {us : List Term} (h : Recorded arities
       let (rest, e) = terms-begin h v terms₀ facts₀ in
       let r = row-table (λ j. star) (s .terms) us (h .terms) (recorded v s us terms₀ facts₀ .terms) rest e i l in
       subst (λ (xs : List ℕ). TermLine (shownTerm xs)) (sym r)
-      (shownTerm-line (h .terms i l) (w .terms) (λ f as' q. w .functions f as' (subst (λ (x : Term). List·Memᴰ x (s .terms ++ us)) q (getD-mem (s .terms ++ us) i star l))))
+      (shownTerm-line (h .terms i l) (w .terms))
 
   fact-shown : (i : ℕ) → i < length (s .facts) → FactLine (factNumbers arities (recorded v s us terms₀ facts₀ .facts) i)
   unfolding factNumbers

@@ -5,12 +5,13 @@ use mathlib.Core.List.{List, [], _∷_, _++_, map, List·Memᴰ, List·Memᴰ·h
 use Prim.Native.Nat.{ℕ, zero, suc, _+_, _-_, _≤_, _<_}
 use native.Mathlib.Nat.{zero-add, add-zero, add-suc, suc-add}
 use native.Mathlib.Omega.{arith}
-use lib.Dec.{eqb}
+use lib.Dec.{eqb, ltb}
 use lib.ListN.{length, getD, take, drop, replicate, length-map, length-append, List·getD-append}
 use lib.Seq.{take-at}
-use borrow.Author.Tests.{ne-eqb}
+use borrow.Author.Tests.{ne-eqb, lt-ltb, le-ltb}
+use Rattle.model.specs.Limits.{fixedMark}
 use Rattle.model.specs.Lists.{collect, padded, row}
-use Rattle.model.specs.Term.{Term, Terms, star, skolem, list, terms}
+use Rattle.model.specs.Term.{Term, Terms, star, fixed, skolem, list, terms}
 use Rattle.model.specs.Tables.{number, termRow}
 use Rattle.model.specs.Spelled.{termAt, spelledTerms}
 use Rattle.laws.proofs.Terms.{terms-list}
@@ -18,10 +19,12 @@ use Rattle.laws.proofs.Places.{length-padded}
 use Rattle.laws_tables.proofs.Rows.{row-collect}
 use Rattle.laws_tables.proofs.Numbering.{number-below, getD-number}
 
--- A term that record i can hold, over terms numbered by ts. c says what a record of zeros is.
+-- A term that record i can hold, over terms numbered by ts. c says what a record of zeros is. No Skolem function is as high as the
+-- mark of a constant of the rules.
 pub data Recordable (c : ℕ → Term) (ts : List Term) (i : ℕ) : Term → Type 0 where
   plain : {t : Term} → termRow ts t ≡ replicate 10 0 → c i ≡ t → Recordable c ts i t
-  marked : {f : ℕ} {us : Terms} → 1 ≤ f → length (list us) ≤ 8 → ((a : Term) → List·Memᴰ a (list us) → List·Memᴰ a ts × (number ts a < i))
+  known : {n : ℕ} → n < 3 → Recordable c ts i (fixed n)
+  marked : {f : ℕ} {us : Terms} → 1 ≤ f → f ≤ 2048 → length (list us) ≤ 8 → ((a : Term) → List·Memᴰ a (list us) → List·Memᴰ a ts × (number ts a < i))
       → Recordable c ts i (skolem f us)
 
 -- terms whose arguments stand before them, and after them some more over these
@@ -31,7 +34,8 @@ TermList c ts us = (i : ℕ) → i < length (ts ++ us) → Recordable c ts i (ge
 pub length-termRow : {c : ℕ → Term} {ts : List Term} {i : ℕ} {t : Term} → Recordable c ts i t → length (termRow ts t) ≡ 10
 unfolding termRow
 length-termRow (plain e k) = ap length e
-length-termRow {ts = ts} (marked {f} {us} h l k) =
+length-termRow (known {n} h) = length-padded 10 ((fixedMark + n) ∷ []) (omega arith)
+length-termRow {ts = ts} (marked {f} {us} h b l k) =
     length-padded 10 (f ∷ length (list us) ∷ map (number ts) (list us)) (rw (length-map (list us) (number ts)) (omega arith))
 
 pub recordable-mem : (c : ℕ → Term) (ts us : List Term) → TermList c ts us → {t : Term} → List·Memᴰ t (ts ++ us)
@@ -42,16 +46,30 @@ recordable-mem c ts us h {t} m =
 -- one record, read
 
 abbrev fromRow : (ℕ → Term) → (ℕ → Term) → ℕ → List ℕ → Term
-fromRow c g i r = elim (eqb (getD r 0 0) 0) [ true ↦ c i | false ↦ skolem (getD r 0 0) (terms (map g (take (getD r 1 0) (drop 2 r)))) ]
+fromRow c g i r =
+    elim (eqb (getD r 0 0) 0) [
+      | true ↦ c i
+      | false ↦
+          elim (ltb (getD r 0 0) fixedMark) [
+            | true ↦ skolem (getD r 0 0) (terms (map g (take (getD r 1 0) (drop 2 r))))
+            | false ↦ fixed (getD r 0 0 - fixedMark)
+          ]
+    ]
 
 termAt-row : (c : ℕ → Term) (k i : ℕ) (table r : List ℕ) → row 10 i table ≡ r → termAt c (suc k) table i ≡ fromRow c (termAt c k table) i r
 unfolding termAt
 termAt-row c k i table r e = ap (fromRow c (termAt c k table) i) e
 
-fromRow-skolem : (c g : ℕ → Term) (i f n : ℕ) (ns : List ℕ) → 1 ≤ f → length ns ≡ n → fromRow c g i (padded 10 (f ∷ n ∷ ns)) ≡ skolem f (terms (map g ns))
+fromRow-fixed : (c g : ℕ → Term) (i n : ℕ) → fromRow c g i (padded 10 ((fixedMark + n) ∷ [])) ≡ fixed n
 unfolding padded
-fromRow-skolem c g i f n ns h l =
-    rw (ne-eqb f 0 (omega arith), fromRow) (ap (λ (ms : List ℕ). skolem f (terms (map g ms))) (take-at ns (replicate (10 - suc (suc (length ns))) 0) n l))
+fromRow-fixed c g i n =
+    rw (ne-eqb (fixedMark + n) 0 (omega arith), le-ltb (fixedMark + n) fixedMark (omega arith), fromRow) (ap fixed (omega arith))
+
+fromRow-skolem : (c g : ℕ → Term) (i f n : ℕ) (ns : List ℕ) → 1 ≤ f → f ≤ 2048 → length ns ≡ n
+    → fromRow c g i (padded 10 (f ∷ n ∷ ns)) ≡ skolem f (terms (map g ns))
+unfolding padded
+fromRow-skolem c g i f n ns h b l =
+    rw (ne-eqb f 0 (omega arith), lt-ltb f fixedMark (omega arith), fromRow) (ap (λ (ms : List ℕ). skolem f (terms (map g ms))) (take-at ns (replicate (10 - suc (suc (length ns))) 0) n l))
 
 -- what was recorded is read
 
@@ -67,9 +85,11 @@ module _ (c : ℕ → Term) (ts us : List Term) (h : TermList c ts us) (table re
       → ((j : ℕ) → j < i → j < length (ts ++ us) → termAt c k table j ≡ getD (ts ++ us) j star) → termAt c (suc k) table i ≡ t
   unfolding termRow
   termAt-recorded k i t r (plain p q) below = termAt-row c k i table (replicate 10 0) (r ∙ p) ∙ q
-  termAt-recorded k i t r (marked {f} {us = as'} p q ms) below =
+  termAt-recorded k i t r (known {n} h) below =
+      termAt-row c k i table (padded 10 ((fixedMark + n) ∷ [])) r ∙ fromRow-fixed c (termAt c k table) i n
+  termAt-recorded k i t r (marked {f} {us = as'} p b q ms) below =
       termAt-row c k i table (padded 10 (f ∷ length (list as') ∷ map (number ts) (list as'))) r
-      ∙ fromRow-skolem c (termAt c k table) i f (length (list as')) (map (number ts) (list as')) p (length-map (list as') (number ts))
+      ∙ fromRow-skolem c (termAt c k table) i f (length (list as')) (map (number ts) (list as')) p b (length-map (list as') (number ts))
       ∙ ap (skolem f) (ap terms (map-read (termAt c k table) (number ts) (list as') args) ∙ terms-list as')
     where
       args : (a : Term) → List·Memᴰ a (list as') → termAt c k table (number ts a) ≡ a

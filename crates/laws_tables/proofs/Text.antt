@@ -2,7 +2,7 @@
 use mathlib.Core.Path.{_≡_, refl}
 use mathlib.Core.Bool.{true}
 use mathlib.Core.List.{List, [], _∷_, _++_, List·Memᴰ}
-use Prim.Native.Nat.{ℕ, _+_, _^_, _≤_, _<_}
+use Prim.Native.Nat.{ℕ, suc, _+_, _*_, _^_, _≤_, _<_}
 use native.Mathlib.Omega.{arith}
 use lib.Dec.{ltb}
 use lib.ListN.{length, length-append}
@@ -41,13 +41,16 @@ pub textOf-ascii : (bytes : List ℕ) (c : Checked) → Ascii (textOf bytes c)
 unfolding textOf
 textOf-ascii bytes c = text-ascii (declared bytes) (c .verdict) (c .terms) (c .facts)
 
--- what a line shows of a term: a Skolem function of at most four digits, and at most eight term numbers of at most three
+-- What a line shows of a term: its own number, and term numbers of at most three digits. The longest line has a Skolem function of four digits
+-- and eight term numbers; a constant of the rules has five digits, and stands alone.
 pub record TermLine (ns : List ℕ) : Type 0 where
   pub function : ℕ
   pub arguments : List ℕ
   pub whole : ns ≡ function ∷ arguments
-  pub function-small : function < 10 ^ 4
-  pub few : length arguments ≤ 8
+  -- its digits after the first
+  pub rest : ℕ
+  pub function-small : function < 10 ^ suc rest
+  pub short : rest + length arguments * 4 ≤ 35
   pub small : (n : ℕ) → List·Memᴰ n arguments → n < 10 ^ 3
 
 -- what a line shows of a fact: a predicate of at most four digits, and at most four term numbers of at most three
@@ -61,9 +64,9 @@ pub record FactLine (ns : List ℕ) : Type 0 where
 
 length-function : {ns : List ℕ} → TermLine ns → length (spaced ns) ≤ 37
 length-function {ns} h =
-    let k = length-spaced-cons (h .function) (h .arguments) 3 (h .function-small) in
+    let k = length-spaced-cons (h .function) (h .arguments) (h .rest) (h .function-small) in
     let l = length-spaced (h .arguments) 2 (h .small) in
-    let m = h .few in
+    let m = h .short in
     rw (h .whole) (omega arith)
 
 length-termLine : (i : ℕ) {ns : List ℕ} → i < 10 ^ 3 → TermLine ns → length (line termWord (i ∷ ns)) ≤ 46

@@ -19,11 +19,11 @@ use Rattle.model.specs.Tables
 use Rattle.model.specs.Tables.{Checked, checked}
 use Rattle.model.specs.Text
 use Rattle.model.specs.Text.{printed}
-use Rattle.model.specs.Cases.{Case, terms₀, facts₀, expected, expectedTables, cases, riverBytes, riverForm, riverText, misreadings, ordered, versions, AtDepth, deeper}
+use Rattle.model.specs.Cases.{Case, terms₀, facts₀, expected, expectedTables, cases, riverBytes, riverForm, riverText, misreadings, ordered, versions, AtDepth, deeper, Named, named}
 
 -- `checked`, with every definition that it rests on open
 run : ℕ → List ℕ → Checked
-unfolding ℕ-discrete Lists.all Lists.any Lists.keep Lists.extend Lists.index Lists.collect Lists.member Lists.padded Lists.row Term.same Term.list Term.terms Term.size Term.functions Term.meeting Term.nesting Term.cyclic Rules.wide Rules.mostPredicates Rules.variablesOf Rules.inBody Rules.universal Rules.frontier Rules.existential Rules.existentialFree Rules.datalog Rules.blockable Rules.repeated Rules.detached Rules.disjunctsFrom Rules.countSkolem Rules.entriesFrom Rules.entries Rules.owns Format.andThen Format.byte Format.number Format.many Format.variable Format.atom Format.atoms Format.sound Format.rule Format.stated Format.whole Format.ruleSet Format.read Triggers.sameAll Triggers.sameFact Triggers.present Triggers.termsOf Triggers.assign Triggers.instantiate Triggers.assignments Triggers.holds Triggers.triggers Triggers.headTerm Triggers.headFacts Triggers.output Blocking.rename Blocking.renamed Blocking.template Blocking.origin Blocking.made Blocking.datalogOutput Blocking.saturate Blocking.testBase Blocking.testSet Blocking.blocked Stages.critical Stages.triggersIn Stages.contribution Stages.outputs Stages.grown Stages.stage Stages.cyclicTerms Stages.sizeOf Stages.tooLarge Stages.tooMany Stages.judge Stages.verdict Tables.number Tables.termRow Tables.factRow Tables.fronted Tables.recorded Tables.left Tables.isDepth Tables.checked
+unfolding ℕ-discrete Lists.all Lists.any Lists.keep Lists.extend Lists.index Lists.collect Lists.member Lists.padded Lists.row Term.same Term.list Term.terms Term.size Term.functions Term.meeting Term.nesting Term.cyclic Rules.wide Rules.mostPredicates Rules.variablesOf Rules.inBody Rules.universal Rules.frontier Rules.existential Rules.existentialFree Rules.datalog Rules.blockable Rules.repeated Rules.detached Rules.disjunctsFrom Rules.countSkolem Rules.entriesFrom Rules.entries Rules.owns Format.andThen Format.byte Format.number Format.many Format.variable Format.atom Format.atoms Format.sound Format.rule Format.stated Format.whole Format.ruleSet Format.read Triggers.sameAll Triggers.sameFact Triggers.present Triggers.termsOf Triggers.assign Triggers.valued Triggers.instantiate Triggers.assignments Triggers.holds Triggers.triggers Triggers.headTerm Triggers.headFacts Triggers.output Blocking.rename Blocking.renamed Blocking.template Blocking.origin Blocking.made Blocking.datalogOutput Blocking.saturate Blocking.testBase Blocking.testSet Blocking.blocked Stages.fixedFrom Stages.leaves Stages.tuples Stages.critical Stages.triggersIn Stages.contribution Stages.outputs Stages.grown Stages.stage Stages.cyclicTerms Stages.sizeOf Stages.tooLarge Stages.tooMany Stages.judge Stages.verdict Tables.number Tables.termRow Tables.factRow Tables.fronted Tables.recorded Tables.left Tables.isDepth Tables.checked
 run d bytes = checked d bytes terms₀ facts₀
 
 -- Rows 2 to 10, River and Lake: verdict, stage, counts, place and both tables; and the text of River.
@@ -51,6 +51,12 @@ of-versions = refl
 pub at-depths : map (λ (c : AtDepth). checked (c .depth) (c .case .bytes) terms₀ facts₀) deeper ≡ map (λ (c : AtDepth). expected (c .case)) deeper
 unfolding run deeper expected expectedTables
 at-depths = refl
+
+-- Constants of the rules: verdict, stage, counts and both tables.
+pub with-constants :
+    map (λ (c : Named). Tables.left 1 (c .book) (Stages.verdict 1 (c .book)) terms₀ facts₀) named ≡ map (λ (c : Named). expectedTables (c .verdict) (c .tables)) named
+unfolding ℕ-discrete Lists.all Lists.any Lists.keep Lists.extend Lists.index Lists.collect Lists.member Lists.padded Lists.row Term.same Term.list Term.terms Term.size Term.functions Term.meeting Term.nesting Term.cyclic Rules.wide Rules.mostPredicates Rules.variablesOf Rules.inBody Rules.universal Rules.frontier Rules.existential Rules.existentialFree Rules.datalog Rules.blockable Rules.repeated Rules.detached Rules.disjunctsFrom Rules.countSkolem Rules.entriesFrom Rules.entries Rules.owns Format.andThen Format.byte Format.number Format.many Format.variable Format.atom Format.atoms Format.sound Format.rule Format.stated Format.whole Format.ruleSet Format.read Triggers.sameAll Triggers.sameFact Triggers.present Triggers.termsOf Triggers.assign Triggers.valued Triggers.instantiate Triggers.assignments Triggers.holds Triggers.triggers Triggers.headTerm Triggers.headFacts Triggers.output Blocking.rename Blocking.renamed Blocking.template Blocking.origin Blocking.made Blocking.datalogOutput Blocking.saturate Blocking.testBase Blocking.testSet Blocking.blocked Stages.fixedFrom Stages.leaves Stages.tuples Stages.critical Stages.triggersIn Stages.contribution Stages.outputs Stages.grown Stages.stage Stages.cyclicTerms Stages.sizeOf Stages.tooLarge Stages.tooMany Stages.judge Stages.verdict Tables.number Tables.termRow Tables.factRow Tables.fronted Tables.recorded Tables.left named expectedTables
+with-constants = refl
 
 -- which of the numbers from place p on are counted
 pub countedFrom : List ℕ → ℕ → List ℕ → List Bool

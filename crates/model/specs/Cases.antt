@@ -1,10 +1,11 @@
 -- The cases that document 01 marks to be proved, [P], forms of River, books on which a misreading of it gives another answer, one for the
--- order of records, books of both versions, and books at other depths. Their theorems stand in proofs/Cases.antt. Assumes nothing.
+-- order of records, books of both versions, books at other depths, and rule sets that name constants. Their theorems stand in proofs/Cases.antt. Assumes nothing.
 use mathlib.Core.List.{List, [], _∷_, _++_}
 use Prim.Native.Nat.{ℕ, _-_}
 use lib.ListN.{length, replicate}
 use Rattle.model.specs.Limits.{termsFront, factsFront}
 use Rattle.model.specs.Lists.{collect, padded}
+use Rattle.model.specs.Rules.{RuleSet}
 use Rattle.model.specs.Stages.{Verdict, accepted, cyclicAt, refused}
 use Rattle.model.specs.Tables.{Checked, fronted}
 
@@ -158,4 +159,73 @@ deeper =
     record { depth = 3; case = record { bytes = 0 ∷ 0 ∷ 0 ∷ 37 ∷ 1 ∷ 3 ∷ 1 ∷ 2 ∷ 1 ∷ 3 ∷ 1 ∷ 0 ∷ 0 ∷ 1 ∷ 1 ∷ 1 ∷ 0 ∷ 1 ∷ 2 ∷ 1 ∷ 0 ∷ 1 ∷ 2 ∷ 0 ∷ 1 ∷ 1 ∷ 0 ∷ 1 ∷ 3 ∷ 1 ∷ 0 ∷ 1 ∷ 1 ∷ 1 ∷ 2 ∷ 2 ∷ 0 ∷ 1 ∷ 1 ∷ 0 ∷ 2 ∷ []; verdict = accepted 5 8 4; tables = rows ((0 ∷ []) ∷ (1 ∷ 1 ∷ 0 ∷ []) ∷ (1 ∷ 1 ∷ 1 ∷ []) ∷ (1 ∷ 1 ∷ 2 ∷ []) ∷ []) ((0 ∷ 0 ∷ []) ∷ (1 ∷ 0 ∷ 0 ∷ []) ∷ (2 ∷ 0 ∷ []) ∷ (1 ∷ 0 ∷ 1 ∷ []) ∷ (0 ∷ 1 ∷ []) ∷ (1 ∷ 1 ∷ 2 ∷ []) ∷ (0 ∷ 2 ∷ []) ∷ (1 ∷ 2 ∷ 3 ∷ []) ∷ []) } } ∷
     -- the same function side by side in two arguments
     record { depth = 1; case = record { bytes = 0 ∷ 0 ∷ 0 ∷ 27 ∷ 1 ∷ 3 ∷ 1 ∷ 2 ∷ 3 ∷ 2 ∷ 1 ∷ 0 ∷ 0 ∷ 1 ∷ 1 ∷ 1 ∷ 0 ∷ 1 ∷ 2 ∷ 1 ∷ 0 ∷ 1 ∷ 1 ∷ 2 ∷ 3 ∷ 1 ∷ 1 ∷ 2 ∷ 1 ∷ 3 ∷ 4 ∷ []; verdict = accepted 2 8 6; tables = rows ((0 ∷ []) ∷ (1 ∷ 1 ∷ []) ∷ (2 ∷ 2 ∷ []) ∷ (2 ∷ 2 ∷ 0 ∷ 1 ∷ []) ∷ (2 ∷ 2 ∷ 1 ∷ []) ∷ (2 ∷ 2 ∷ 1 ∷ 1 ∷ []) ∷ []) ((0 ∷ []) ∷ (1 ∷ []) ∷ (2 ∷ []) ∷ (1 ∷ 0 ∷ 1 ∷ []) ∷ (2 ∷ 0 ∷ 0 ∷ 2 ∷ []) ∷ (2 ∷ 0 ∷ 1 ∷ 3 ∷ []) ∷ (2 ∷ 1 ∷ 0 ∷ 4 ∷ []) ∷ (2 ∷ 1 ∷ 1 ∷ 5 ∷ []) ∷ []) } } ∷
+    []
+
+-- Constants of the rules (document 02, C-16): a rule set, and what its stages come to at depth 1
+pub record Named : Type 0 where
+  pub book : RuleSet
+  pub verdict : Verdict
+  pub tables : Tables
+
+unfoldable pub named : List Named
+named =
+    -- ⋆ and a constant, at one place and at two
+    record {
+      book =
+          record {
+            version = 3;
+            fixed = 1;
+            arities = 2 ∷ 1 ∷ [];
+            rules =
+                [];
+          };
+      verdict = accepted 0 6 2;
+      tables = rows ((0 ∷ []) ∷ (60001 ∷ []) ∷ []) ((0 ∷ []) ∷ (0 ∷ 0 ∷ 1 ∷ []) ∷ (0 ∷ 1 ∷ []) ∷ (0 ∷ 1 ∷ 1 ∷ []) ∷ (1 ∷ []) ∷ (1 ∷ 1 ∷ []) ∷ []);
+    } ∷
+    -- P(x,x) → Q(x,x); P(x,y) → Q(x,y) ∨ ∃z. R(x,y,z): the constant is not renamed, so that its trigger alone is blocked
+    record {
+      book =
+          record {
+            version = 3;
+            fixed = 1;
+            arities = 2 ∷ 2 ∷ 3 ∷ [];
+            rules =
+                record {
+                  body = record { predicate = 0; variables = 0 ∷ 0 ∷ [] } ∷ [];
+                  head = (record { predicate = 1; variables = 0 ∷ 0 ∷ [] } ∷ []) ∷ [];
+                } ∷
+                record {
+                  body = record { predicate = 0; variables = 0 ∷ 1 ∷ [] } ∷ [];
+                  head = (record { predicate = 1; variables = 0 ∷ 1 ∷ [] } ∷ []) ∷ (record { predicate = 2; variables = 0 ∷ 1 ∷ 2 ∷ [] } ∷ []) ∷ [];
+                } ∷
+                [];
+          };
+      verdict = accepted 1 19 5;
+      tables = rows ((0 ∷ []) ∷ (60001 ∷ []) ∷ (1 ∷ 2 ∷ []) ∷ (1 ∷ 2 ∷ 0 ∷ 1 ∷ []) ∷ (1 ∷ 2 ∷ 1 ∷ []) ∷ []) ((0 ∷ []) ∷ (0 ∷ 0 ∷ 1 ∷ []) ∷ (0 ∷ 1 ∷ []) ∷ (0 ∷ 1 ∷ 1 ∷ []) ∷ (1 ∷ []) ∷ (1 ∷ 0 ∷ 1 ∷ []) ∷ (1 ∷ 1 ∷ []) ∷ (1 ∷ 1 ∷ 1 ∷ []) ∷ (2 ∷ []) ∷ (2 ∷ 0 ∷ 0 ∷ 1 ∷ []) ∷ (2 ∷ 0 ∷ 1 ∷ []) ∷ (2 ∷ 0 ∷ 1 ∷ 1 ∷ []) ∷ (2 ∷ 1 ∷ []) ∷ (2 ∷ 1 ∷ 0 ∷ 1 ∷ []) ∷ (2 ∷ 1 ∷ 1 ∷ []) ∷ (2 ∷ 1 ∷ 1 ∷ 1 ∷ []) ∷ (2 ∷ 0 ∷ 0 ∷ 2 ∷ []) ∷ (2 ∷ 0 ∷ 1 ∷ 3 ∷ []) ∷ (2 ∷ 1 ∷ 0 ∷ 4 ∷ []) ∷ []);
+    } ∷
+    -- River, whose third rule names the spring in its body
+    record {
+      book =
+          record {
+            version = 3;
+            fixed = 1;
+            arities = 1 ∷ 2 ∷ 1 ∷ [];
+            rules =
+                record {
+                  body = record { predicate = 0; variables = 0 ∷ [] } ∷ [];
+                  head = (record { predicate = 1; variables = 0 ∷ 1 ∷ [] } ∷ []) ∷ [];
+                } ∷
+                record {
+                  body = record { predicate = 1; variables = 0 ∷ 1 ∷ [] } ∷ [];
+                  head = (record { predicate = 2; variables = 1 ∷ [] } ∷ []) ∷ (record { predicate = 0; variables = 1 ∷ [] } ∷ []) ∷ [];
+                } ∷
+                record {
+                  body = record { predicate = 1; variables = 8 ∷ 0 ∷ [] } ∷ [];
+                  head = (record { predicate = 2; variables = 0 ∷ [] } ∷ []) ∷ [];
+                } ∷
+                [];
+          };
+      verdict = cyclicAt 3 13 4;
+      tables = rows ((0 ∷ []) ∷ (60001 ∷ []) ∷ (1 ∷ 1 ∷ []) ∷ (1 ∷ 1 ∷ 1 ∷ []) ∷ (1 ∷ 1 ∷ 2 ∷ []) ∷ []) ((0 ∷ []) ∷ (0 ∷ 1 ∷ []) ∷ (1 ∷ []) ∷ (1 ∷ 0 ∷ 1 ∷ []) ∷ (1 ∷ 1 ∷ []) ∷ (1 ∷ 1 ∷ 1 ∷ []) ∷ (2 ∷ []) ∷ (2 ∷ 1 ∷ []) ∷ (1 ∷ 0 ∷ 2 ∷ []) ∷ (1 ∷ 1 ∷ 3 ∷ []) ∷ (2 ∷ 2 ∷ []) ∷ (0 ∷ 2 ∷ []) ∷ (2 ∷ 3 ∷ []) ∷ []);
+    } ∷
     []

@@ -2,11 +2,11 @@
 -- the answer and the tables of `check`. Assumes nothing.
 use mathlib.Core.Path.{_≡_}
 use mathlib.Core.List.{List, [], _∷_, map, List·Memᴰ}
-use mathlib.Core.Bool.{false}
+use mathlib.Core.Bool.{false, not}
 use Prim.Native.Nat.{ℕ, _+_, _^_, _≤_, _<_}
 use lib.ListN.{length, getD}
-use Rattle.model.specs.Lists.{any, extend}
-use Rattle.model.specs.Term.{Term, star, constant, same, starred, stars, cyclic}
+use Rattle.model.specs.Lists.{any, keep, extend}
+use Rattle.model.specs.Term.{Term, star, constant, fixed, same, isFixed, starred, stars, cyclic}
 use Rattle.model.specs.Rules.{RuleSet}
 use Rattle.model.specs.Format.{good, read}
 use Rattle.model.specs.Triggers.{Fact, termsOf}
@@ -23,24 +23,26 @@ unfoldable pub starsOf : List Term → ℕ
 starsOf [] = 0
 starsOf (t ∷ ts) = stars t + starsOf ts
 
--- n: the different constants of an instance
+-- n: the different constants of an instance that rules do not name (document 02, C-16)
 unfoldable pub constants : List Fact → ℕ
-constants fs = length (extend same [] (termsOf fs))
+constants fs = length (extend same [] (keep (λ (t : Term). not (isFixed t)) (termsOf fs)))
 
 -- the sum, over listed facts, of n to the power k; n to the power 0 is 1
 unfoldable pub bound : ℕ → List Fact → ℕ
 bound n [] = 0
 bound n (f ∷ fs) = n ^ starsOf (f .arguments) + bound n fs
 
-pub data Constants : List Term → Type 0 where
-  none : Constants []
-  more : {c : ℕ} {ts : List Term} → Constants ts → Constants (constant c ∷ ts)
+-- constants, and k constants of the rules
+pub data Constants (k : ℕ) : List Term → Type 0 where
+  none : Constants k []
+  more : {c : ℕ} {ts : List Term} → Constants k ts → Constants k (constant c ∷ ts)
+  known : {c : ℕ} {ts : List Term} → c < k → Constants k ts → Constants k (fixed c ∷ ts)
 
 -- a fact over declared predicates and constants
 pub record Over (b : RuleSet) (f : Fact) : Type 0 where
   pub declared : f .predicate < length (b .arities)
   pub arity : length (f .arguments) ≡ getD (b .arities) (f .predicate) 0
-  pub constant : Constants (f .arguments)
+  pub constant : Constants (b .fixed) (f .arguments)
 
 -- what is claimed of a state that a filling reached, at depth d
 pub record Bounded (d : ℕ) (listed : List Fact) (instance' : List Fact) (s : State) : Type 0 where

@@ -32,6 +32,7 @@ unfoldable pub river : RuleSet
 river =
     record {
       version = 1;
+      fixed = 0;
       arities = 1 ∷ 2 ∷ 1 ∷ [];
       rules =
           record {
@@ -54,6 +55,7 @@ unfoldable pub either : RuleSet
 either =
     record {
       version = 1;
+      fixed = 0;
       arities = 1 ∷ 1 ∷ 1 ∷ [];
       rules =
           record {

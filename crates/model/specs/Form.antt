@@ -68,7 +68,7 @@ ruleAt form arities at = record { body = groupAt form arities (suc at); head = s
 unfoldable pub decoded : List ℕ → RuleSet
 decoded form =
     let arities : List ℕ = numbersFrom form aritiesPlace (getD form 0 0) in
-    record { version = getD form versionPlace 0; arities = arities; rules = spaced (ruleAt form arities) ruleWidth (getD form 1 0) 2 }
+    record { version = getD form versionPlace 0; fixed = 0; arities = arities; rules = spaced (ruleAt form arities) ruleWidth (getD form 1 0) 2 }
 
 -- how many bytes were read or written, or a refusal and its place
 pub data Transfer : Type 0 where

@@ -86,7 +86,7 @@ ruleSet bs =
     andThen (many n (byte bs 1 4 4) j) (λ arities k.
     andThen (byte bs 0 ruleLimit 5 k) (λ m l.
     andThen (many m (rule bs (signed v arities)) l) (λ rs e.
-    elim (eqb e (length bs)) [ true ↦ good (record { version = v; arities = arities; rules = rs }) e | false ↦ bad 10 e ])))))
+    elim (eqb e (length bs)) [ true ↦ good (record { version = v; fixed = 0; arities = arities; rules = rs }) e | false ↦ bad 10 e ])))))
 
 -- the number that the first four bytes spell
 unfoldable pub stated : List ℕ → ℕ

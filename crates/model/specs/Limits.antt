@@ -28,6 +28,10 @@ factWidth = 5
 abbrev pub termWidth : ℕ
 termWidth = 10
 
+-- what stands for a Skolem function in the record of the first constant of the rules (document 02, C-16); no function has so high a number
+abbrev pub fixedMark : ℕ
+fixedMark = 60001
+
 -- the places of a trigger of a blockable rule, and the facts of its closed test set ("Size of a match")
 abbrev pub placeLimit : ℕ
 placeLimit = 64

@@ -4,10 +4,11 @@ use mathlib.Core.Path.{_≡_}
 use mathlib.Core.List.{List, [], map, List·Memᴰ}
 use mathlib.Core.Bool.{Bool, true, false, _||_}
 use Prim.Native.Nat.{ℕ, _<_}
-use lib.ListN.{length, getD, replicate}
+use lib.Dec.{ltb}
+use lib.ListN.{length, getD}
 use Rattle.model.specs.Lists.{member}
-use Rattle.model.specs.Term.{Position, root, child, Term, Terms, star, constant, apart, fresh, skolem, none, more, list, functions, functionsAll}
-use Rattle.model.specs.Rules.{Atom, Rule, RuleSet, Disjunct, Entry, entries, inBody, universal, frontier, datalog, owns}
+use Rattle.model.specs.Term.{Position, root, child, Term, Terms, star, constant, fixed, apart, fresh, skolem, none, more, list, functions, functionsAll, isFixed}
+use Rattle.model.specs.Rules.{Atom, Rule, RuleSet, Disjunct, Entry, entries, inBody, universal, frontier, datalog, blockable, owns}
 use Rattle.model.specs.Triggers.{Fact, assign, instantiate, headFacts, output}
 
 -- a cyclic term: some Skolem function stands properly inside a subterm that it heads (001, section 2). `Term` has the notion of every depth,
@@ -16,6 +17,7 @@ unfoldable mutual
   pub repeats : Term → Bool
   repeats star = false
   repeats (constant c) = false
+  repeats (fixed c) = false
   repeats (apart p) = false
   repeats (fresh t v) = false
   repeats (skolem f ts) = member f (functionsAll ts) || repeatsAny ts
@@ -28,9 +30,11 @@ unfoldable mutual
 abbrev pub Substitution : Rule → List Term → Type 0
 Substitution r m = length m ≡ length (universal r)
 
--- τ_v(t, l) (004, Definition 45): a position is v and l together, arguments counted from 0. A constant is a term without Skolem functions.
+-- τ_v(t, l) (004, Definition 45): a position is v and l together, arguments counted from 0. A constant is a term without Skolem functions. The
+-- rules of 004 name no constants; those that rules name keep their names (document 02, C-16).
 pub data Renamed : Term → Position → Term → Type 0 where
-  renamed-constant : {t : Term} {p : Position} → functions t ≡ [] → Renamed t p (apart p)
+  renamed-constant : {t : Term} {p : Position} → functions t ≡ [] → isFixed t ≡ false → Renamed t p (apart p)
+  renamed-fixed : {c : ℕ} {p : Position} → Renamed (fixed c) p (fixed c)
   renamed-skolem : {f : ℕ} {ts us : Terms} {p : Position} → length (list us) ≡ length (list ts)
       → ((k : ℕ) → k < length (list ts) → Renamed (getD (list ts) k star) (child p k) (getD (list us) k star)) → Renamed (skolem f ts) p (skolem f us)
 
@@ -43,6 +47,12 @@ pub record Apart (r : Rule) (m u : List Term) : Type 0 where
 pub record Template (t : Term) (ts : Terms) (r : Rule) (σ : ℕ → Term) : Type 0 where
   pub arguments : (v : ℕ) → List·Memᴰ v (frontier r) → σ v ≡ assign (frontier r) (list ts) v
   pub others : (v : ℕ) → inBody r v ≡ true → (List·Memᴰ v (frontier r) → ⊥) → σ v ≡ fresh t v
+
+-- The rules whose triggers may be blocked: those that are not Datalog (004, Definition 42). That triggers of blockable rules alone are then
+-- blocked is a theorem, but not where rules name constants; from version 3 on it is said (document 02, C-16).
+abbrev pub Blocks : Bool → Rule → Type 0
+Blocks true r = blockable r ≡ true
+Blocks false r = datalog r ≡ false
 
 module _ (b : RuleSet) where
   -- d is the disjunct with the existential variable z that f is the Skolem function of; its rule is rule(z) (004, before Definition 39)
@@ -72,10 +82,14 @@ module _ (b : RuleSet) where
     base-body : {g : Fact} → List·Memᴰ g (map (instantiate σ) (r .body)) → TestBase r σ g
     base-made : {f g : Fact} (t : Term) → List·Memᴰ f (map (instantiate σ) (r .body)) → List·Memᴰ t (f .arguments) → Made t g → TestBase r σ g
 
+  -- the rules of this rule set whose triggers may be blocked
+  abbrev pub MayBlock : Rule → Type 0
+  MayBlock r = Blocks (ltb 2 (b .version)) r
+
   -- a trigger that is weakly blocked in the context of the rule set (004, Definition 42)
   abbrev pub WeaklyBlocked : Entry → (ℕ → Term) → Type 0
   WeaklyBlocked e σ =
-      (datalog (e .rule) ≡ false)
+      MayBlock (e .rule)
       × (d : Disjunct)
       × List·Memᴰ d (e .disjuncts)
       × ((f : Fact) → List·Memᴰ f (headFacts σ d) → Closed (TestBase (e .rule) σ) f)
@@ -84,10 +98,16 @@ module _ (b : RuleSet) where
   abbrev pub Blocked : Entry → List Term → Type 0
   Blocked e m = (u : List Term) × Apart (e .rule) m u × WeaklyBlocked e (assign (universal (e .rule)) u)
 
-  -- the critical instance: each predicate of ⋆ alone (001, Definition 3)
+  -- ⋆ and the constants of the rules (document 02, C-16; 004 has none)
+  pub data Leaf : Term → Type 0 where
+    leaf-star : Leaf star
+    leaf-fixed : {c : ℕ} → c < b .fixed → Leaf (fixed c)
+
+  -- the critical instance: each predicate of ⋆ alone (001, Definition 3), and of the constants of the rules beside it
   pub record Critical (f : Fact) : Type 0 where
     pub declared : f .predicate < length (b .arities)
-    pub stars : f .arguments ≡ replicate (getD (b .arities) (f .predicate) 0) star
+    pub arity : length (f .arguments) ≡ getD (b .arities) (f .predicate) 0
+    pub leaves : (t : Term) → List·Memᴰ t (f .arguments) → Leaf t
 
   -- DMFA(R): the least set that contains the critical instance and the output of every loaded trigger that is not blocked
   -- (001, Definition 4; 004, Definition 50)

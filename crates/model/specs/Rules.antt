@@ -8,6 +8,7 @@ use lib.ListN.{length}
 use Rattle.model.specs.Limits.{narrowLimit, predicateLimit}
 use Rattle.model.specs.Lists.{all, any, keep, collect, member}
 
+-- a number below 8 is a variable, one from 8 on a constant of the rules (document 02, C-16)
 pub record Atom : Type 0 where
   pub predicate : ℕ
   pub variables : List ℕ
@@ -17,9 +18,11 @@ pub record Rule : Type 0 where
   pub body : List Atom
   pub head : List (List Atom)
 
--- the version is that of its bytes (document 02, C-15), and says nothing of what the rules mean
+-- the version is that of its bytes (document 02, C-15), and says nothing of what the rules mean; the rules may name so many fixed constants
+-- (document 02, C-16)
 pub record RuleSet : Type 0 where
   pub version : ℕ
+  pub fixed : ℕ
   pub arities : List ℕ
   pub rules : List Rule
 
@@ -37,8 +40,9 @@ variablesOf atoms = collect (λ (a : Atom). a .variables) atoms
 abbrev pub names : List ℕ
 names = 0 ∷ 1 ∷ 2 ∷ 3 ∷ 4 ∷ 5 ∷ 6 ∷ 7 ∷ []
 
+-- a variable of the body
 unfoldable pub inBody : Rule → ℕ → Bool
-inBody r v = member v (variablesOf (r .body))
+inBody r v = ltb v 8 && member v (variablesOf (r .body))
 
 -- the body's variables; this and the next two in rising order
 unfoldable pub universal : Rule → List ℕ

@@ -1,20 +1,27 @@
 -- The other way: the terms and facts that two tables spell out (document 01, "Filling": the accepted list). Assumes nothing.
 use mathlib.Core.List.{List, [], _∷_, map}
 use mathlib.Core.Bool.{true, false}
-use Prim.Native.Nat.{ℕ, zero, suc}
-use lib.Dec.{eqb}
+use Prim.Native.Nat.{ℕ, zero, suc, _-_}
+use lib.Dec.{eqb, ltb}
 use lib.ListN.{getD, take, drop}
-use Rattle.model.specs.Limits.{termWidth}
+use Rattle.model.specs.Limits.{termWidth, fixedMark}
 use Rattle.model.specs.Lists.{row}
-use Rattle.model.specs.Term.{Term, skolem, terms}
+use Rattle.model.specs.Term.{Term, fixed, skolem, terms}
 use Rattle.model.specs.Triggers.{Fact}
 
--- Term number i of a table. c says what a row without a Skolem function is; k bounds the depth, and a term's number is enough for it.
+-- Term number i of a table. c says what a row without a mark is; k bounds the depth, and a term's number is enough for it.
 unfoldable pub termAt : (ℕ → Term) → ℕ → List ℕ → ℕ → Term
 termAt c zero ts i = c i
 termAt c (suc k) ts i =
     let r : List ℕ = row termWidth i ts in
-    elim (eqb (getD r 0 0) 0) [ true ↦ c i | false ↦ skolem (getD r 0 0) (terms (map (termAt c k ts) (take (getD r 1 0) (drop 2 r)))) ]
+    elim (eqb (getD r 0 0) 0) [
+      | true ↦ c i
+      | false ↦
+          elim (ltb (getD r 0 0) fixedMark) [
+            | true ↦ skolem (getD r 0 0) (terms (map (termAt c k ts) (take (getD r 1 0) (drop 2 r))))
+            | false ↦ fixed (getD r 0 0 - fixedMark)
+          ]
+    ]
 
 unfoldable pub factAt : List ℕ → (ℕ → Term) → ℕ → List ℕ → List ℕ → ℕ → Fact
 factAt arities c k ts fs i =

@@ -1,12 +1,12 @@
 -- What the check leaves in the caller's two tables (document 01, "Lent lists"). Assumes nothing.
 use mathlib.Core.List.{List, [], _∷_, _++_, map}
 use mathlib.Core.Bool.{Bool, true, false, _&&_}
-use Prim.Native.Nat.{ℕ, _-_}
+use Prim.Native.Nat.{ℕ, _+_, _-_}
 use lib.Dec.{leb}
 use lib.ListN.{length, take, drop, replicate}
-use Rattle.model.specs.Limits.{termWidth, termsFront, factsFront, depthLimit}
+use Rattle.model.specs.Limits.{termWidth, fixedMark, termsFront, factsFront, depthLimit}
 use Rattle.model.specs.Lists.{collect, index, padded}
-use Rattle.model.specs.Term.{Term, star, constant, apart, fresh, skolem, list, same}
+use Rattle.model.specs.Term.{Term, star, constant, fixed, apart, fresh, skolem, list, same}
 use Rattle.model.specs.Rules.{RuleSet, entries}
 use Rattle.model.specs.Format.{good, bad, read}
 use Rattle.model.specs.Triggers.{Fact}
@@ -16,10 +16,11 @@ use Rattle.model.specs.Stages.{Stage, stage, Verdict, accepted, cyclicAt
 unfoldable pub number : List Term → Term → ℕ
 number ts t = index same t ts
 
--- the Skolem function (0 for ⋆), its arity, and eight argument numbers
+-- the Skolem function (0 for ⋆, a mark of its own for a constant of the rules), its arity, and eight argument numbers
 unfoldable pub termRow : List Term → Term → List ℕ
 termRow ts star = replicate termWidth 0
 termRow ts (constant c) = replicate termWidth 0
+termRow ts (fixed c) = padded termWidth ((fixedMark + c) ∷ [])
 termRow ts (apart p) = replicate termWidth 0
 termRow ts (fresh t v) = replicate termWidth 0
 termRow ts (skolem f us) = padded termWidth (f ∷ length (list us) ∷ map (number ts) (list us))

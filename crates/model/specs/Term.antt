@@ -19,6 +19,8 @@ mutual
     star : Term
     -- a constant of an instance (document 01: a plain name), by number
     constant : ℕ → Term
+    -- a constant of the rules (document 02, C-16: a fixed name), by number
+    fixed : ℕ → Term
     -- in the blocking test: the constant of its own that an occurrence of a constant gets (004, Definition 45)
     apart : Position → Term
     -- in the blocking test: the fresh constant of a term and a variable (004, Definition 39)
@@ -35,6 +37,15 @@ mutual
 unfoldable pub same : Term → Term → Bool
 same s t = elim (Term-discrete ℕ-discrete (Position-discrete ℕ-discrete) s t) [ yes e ↦ true | no e ↦ false ]
 
+-- a constant of the rules
+unfoldable pub isFixed : Term → Bool
+isFixed star = false
+isFixed (constant c) = false
+isFixed (fixed c) = true
+isFixed (apart p) = false
+isFixed (fresh t v) = false
+isFixed (skolem f ts) = false
+
 unfoldable pub list : Terms → List Term
 list none = []
 list (more t ts) = t ∷ list ts
@@ -48,6 +59,7 @@ unfoldable mutual
   pub size : Term → ℕ
   size star = 1
   size (constant c) = 1
+  size (fixed c) = 1
   size (apart p) = 1
   size (fresh t v) = 1
   size (skolem f ts) = 1 + sizes ts
@@ -61,6 +73,7 @@ unfoldable mutual
   pub functions : Term → List ℕ
   functions star = []
   functions (constant c) = []
+  functions (fixed c) = []
   functions (apart p) = []
   functions (fresh t v) = []
   functions (skolem f ts) = f ∷ functionsAll ts
@@ -78,6 +91,7 @@ unfoldable mutual
   pub nesting : ℕ → Term → ℕ
   nesting f star = 0
   nesting f (constant c) = 0
+  nesting f (fixed c) = 0
   nesting f (apart p) = 0
   nesting f (fresh t v) = 0
   nesting f (skolem g ts) = meeting f g (nestingAny f ts)
@@ -90,11 +104,12 @@ unfoldable mutual
 unfoldable pub cyclic : ℕ → Term → Bool
 cyclic d t = any (λ (f : ℕ). ltb d (nesting f t)) (functions t)
 
--- ⋆ for each constant
+-- ⋆ for each constant but those of the rules
 unfoldable mutual
   pub starred : Term → Term
   starred star = star
   starred (constant c) = star
+  starred (fixed c) = fixed c
   starred (apart p) = star
   starred (fresh t v) = star
   starred (skolem f ts) = skolem f (starredAll ts)
@@ -108,6 +123,7 @@ unfoldable mutual
   pub stars : Term → ℕ
   stars star = 1
   stars (constant c) = 0
+  stars (fixed c) = 0
   stars (apart p) = 0
   stars (fresh t v) = 0
   stars (skolem f ts) = starsAll ts

@@ -15,7 +15,7 @@ use Rattle.model.specs.Rules.{Atom, Rule, variablesOf, names, inBody, existenti
 use Rattle.model.specs.Format.{Parsed, good, bad, sound}
 use Rattle.laws.proofs.Bools.{case, not-both, and-true, true-and, both-ways}
 use Rattle.laws.proofs.Lists.{any-mem, mem-any, keep-mem, member-mem, mem-member, any-append, collect-append}
-use Rattle.laws.proofs.Rules.{existential-mem, mem-existential, names-mem}
+use Rattle.laws.proofs.Rules.{inBody-small, inBody-member, existential-mem, existential-small, mem-existential}
 use Rattle.form_variables.specs.Sets.{has, setOf}
 use Rattle.parsing.specs.Step.{atomSet, atomsSet}
 use Rattle.parsing.specs.Heads.{lacking, others, faultBy, faultOf, fault}
@@ -52,10 +52,6 @@ lacking-empty x = go (case (eqb x 0))
     go (inl e) = rw (e, lacking)
     go (inr e) = rw (e, lacking)
 
-existential-small : (r : Rule) (d : List Atom) (v : ℕ) → List·Memᴰ v (existential r d) → v ≤ 7
-unfolding existential
-existential-small r d v m = names-mem (keep-mem (λ (v : ℕ). member v (variablesOf d) && not (inBody r v)) names m .0)
-
 -- the set of one atom more
 pub atomsSet-more : (s v : ℕ) (a : Atom) → atomSet a ≡ v → (as' : List Atom) → atomsSet as' ≡ s → atomsSet (as' ++ (a ∷ [])) ≡ bitOr s v
 unfolding variablesOf collect
@@ -67,9 +63,8 @@ atomsSet-more s v a e as' f =
 -- a rule's body and a disjunct, by their sets
 
 module _ (r : Rule) (body : ℕ) (b : body ≡ atomsSet (r .body)) where
-  pub has-body : (v : ℕ) → has body v ≡ inBody r v
-  unfolding inBody
-  has-body v = ap (λ (x : ℕ). has x v) b ∙ has-setOf (variablesOf (r .body)) v
+  pub has-body : (v : ℕ) → v ≤ 7 → has body v ≡ inBody r v
+  has-body v l = ap (λ (x : ℕ). has x v) b ∙ has-setOf (variablesOf (r .body)) v ∙ sym (inBody-member r v l)
 
   module _ (d : List Atom) (set : ℕ) (s : atomsSet d ≡ set) where
     pub has-disjunct : (v : ℕ) → has set v ≡ member v (variablesOf d)
@@ -79,7 +74,7 @@ module _ (r : Rule) (body : ℕ) (b : body ≡ atomsSet (r .body)) where
     has-existential h v = both-ways _ _ there back
       where
         absent : v < 8 → has (255 - body) v ≡ true → inBody r v ≡ false
-        absent l e = sym (has-body v) ∙ not-true (has body v) (sym (has-complement 8 body v h l) ∙ e)
+        absent l e = sym (has-body v (omega arith)) ∙ not-true (has body v) (sym (has-complement 8 body v h l) ∙ e)
 
         split : Dec (v < 8) → has set v ≡ true → has (255 - body) v ≡ true → member v (existential r d) ≡ true
         split (yes l) e f = mem-member (mem-existential r d (omega arith) (member-mem v (variablesOf d) (sym (has-disjunct v) ∙ e)) (absent l f))
@@ -92,21 +87,25 @@ module _ (r : Rule) (body : ℕ) (b : body ≡ atomsSet (r .body)) where
         back e =
             let m = member-mem v (existential r d) e in
             let (i, j) = existential-mem r d m in
-            let l = existential-small r d v m in
+            let l = existential-small r d m in
             has-and set (255 - body) v
             ∙ true-and (has set v) (has (255 - body) v) (has-disjunct v ∙ mem-member i)
-            (has-complement 8 body v h (omega arith) ∙ ap not (has-body v ∙ j))
+            (has-complement 8 body v h (omega arith) ∙ ap not (has-body v l ∙ j))
 
-    pub meets-empty : eqb (bitAnd set body) 0 ≡ detached r d
+    pub meets-empty : body < 256 → eqb (bitAnd set body) 0 ≡ detached r d
     unfolding detached
-    meets-empty =
+    meets-empty h =
         empty-is (bitAnd set body) (any (inBody r) (variablesOf d))
         (λ v e.
         let (i, j) = and-true (has set v) (has body v) (sym (has-and set body v) ∙ e) in
-        mem-any (inBody r) (member-mem v (variablesOf d) (sym (has-disjunct v) ∙ i)) (sym (has-body v) ∙ j))
+        mem-any (inBody r) (member-mem v (variablesOf d) (sym (has-disjunct v) ∙ i)) (sym (has-body v (inside v j (decLt v 8))) ∙ j))
         (λ e.
         let (v, m, i) = any-mem (inBody r) (variablesOf d) e in
-        (v, has-and set body v ∙ true-and (has set v) (has body v) (has-disjunct v ∙ mem-member m) (has-body v ∙ i)))
+        (v, has-and set body v ∙ true-and (has set v) (has body v) (has-disjunct v ∙ mem-member m) (has-body v (inBody-small r v i) ∙ i)))
+      where
+        inside : (v : ℕ) → has body v ≡ true → Dec (v < 8) → v ≤ 7
+        inside v e (yes l) = omega arith
+        inside v e (no l) = not-both (has body v) e (has-beyond 8 body v (omega arith) (omega arith))
 
 -- existential variables that two disjuncts share
 
@@ -209,7 +208,7 @@ module _ (r : Rule) (body : ℕ) (b : body ≡ atomsSet (r .body)) (small : body
             (not-or (repeated r ds) (any (elsewhere r ds) (existential r d)));
         apart-is =
             or-empty apart (lacking (bitAnd set body))
-            ∙ rw (h .apart-is, lacking-empty (bitAnd set body), meets-empty r body b d set s, any-snoc (detached r) ds d)
+            ∙ rw (h .apart-is, lacking-empty (bitAnd set body), meets-empty r body b d set s small, any-snoc (detached r) ds d)
             (not-or (any (detached r) ds) (detached r d));
       }
 

@@ -103,7 +103,7 @@ module _ (form : List ℕ) (n version : ℕ) (z : form ≡ zeros 7812) where
 -- what is left where all is good
 pub form-encoded : (form : List ℕ) (version : ℕ) (arities places rules : List ℕ) (rs : List Rule) → form ≡ zeros 7812 → length arities ≤ 1024
     → places ≡ arities ++ drop (length arities) (take 1024 (drop 6786 (first form (length arities) version))) → rules ≡ rulesRow rs
-    → ruled form (length arities) version places rules ≡ encoded (record { version = version; arities = arities; rules = rs })
+    → ruled form (length arities) version places rules ≡ encoded (record { version = version; fixed = 0; arities = arities; rules = rs })
 unfolding encoded rulesRow
 form-encoded form version arities places rules rs z h e f =
     let p : places ≡ padded 1024 arities = e ∙ rw (places-zeros form (length arities) version z, drop-zeros, padded-zeros) in
@@ -115,11 +115,11 @@ form-encoded form version arities places rules rs z h e f =
 -- the end of the bytes
 
 module _ (bs : List ℕ) (version : ℕ) (arities : List ℕ) (i e : ℕ) (rs : List Rule) (left : List ℕ) (p : parsedRules bs (signed version arities) i ≡ good rs e) where
-  pub ends-good : e ≡ length bs → left ≡ encoded (record { version = version; arities = arities; rules = rs }) → Filled none encoded (afterArities bs version arities i) (Good 0 e) left
+  pub ends-good : e ≡ length bs → left ≡ encoded (record { version = version; fixed = 0; arities = arities; rules = rs }) → Filled none encoded (afterArities bs version arities i) (Good 0 e) left
   unfolding afterArities
   ends-good h l =
       continues _ _ _ _ _ _ rs e p
-      (filled-good none encoded _ (record { version = version; arities = arities; rules = rs }) 0 e left (rw (eq-eqb e (length bs) h)) refl l)
+      (filled-good none encoded _ (record { version = version; fixed = 0; arities = arities; rules = rs }) 0 e left (rw (eq-eqb e (length bs) h)) refl l)
 
   pub ends-bad : (e ≡ length bs → ⊥) → Filled none encoded (afterArities bs version arities i) (Bad 10 e) left
   unfolding afterArities

@@ -29,7 +29,7 @@ Afresh atoms set = atomsSet atoms ≡ set
 unfoldable pub afterArities : List ℕ → ℕ → List ℕ → ℕ → Parsed RuleSet
 afterArities bs version arities i =
     andThen (parsedRules bs (signed version arities) i) (λ rs e.
-    elim (eqb e (length bs)) [ true ↦ good (record { version = version; arities = arities; rules = rs }) e | false ↦ bad 10 e ])
+    elim (eqb e (length bs)) [ true ↦ good (record { version = version; fixed = 0; arities = arities; rules = rs }) e | false ↦ bad 10 e ])
 
 unfoldable pub afterCount : List ℕ → ℕ → ℕ → ℕ → Parsed RuleSet
 afterCount bs version n i = andThen (many n (byte bs 1 4 4) i) (λ arities j. afterArities bs version arities j)

@@ -15,7 +15,7 @@ use Rattle.laws.proofs.Lists.{getD-mem}
 use Rattle.laws_format.proofs.Lists.{length-collect}
 use Rattle.laws_format.proofs.Bytes.{read-well-formed}
 use Rattle.laws_tables.proofs.Rows.{row-collect}
-use Rattle.laws_tables.proofs.Terms.{Recordable, plain, marked, recordable-mem, length-termRow, row-table}
+use Rattle.laws_tables.proofs.Terms.{Recordable, plain, known, marked, recordable-mem, length-termRow, row-table}
 use Rattle.laws_tables.proofs.Facts.{length-factRow}
 use Rattle.laws_tables.proofs.Recorded.{Recorded, terms-begin, facts-begin}
 use Rattle.laws_tables.proofs.Fronts.{Within}
@@ -32,7 +32,8 @@ use Rattle.report.proofs.Arities.{Declares}
 row-arity : {c : ℕ → Term} {ts : List Term} {i : ℕ} {t : Term} → Recordable c ts i t → getD (termRow ts t) 1 0 ≤ 8
 unfolding termRow padded
 row-arity (plain e k) = let a = ap (λ (xs : List ℕ). getD xs 1 0) e in omega arith
-row-arity (marked p q ms) = q
+row-arity (known h) = omega arith
+row-arity (marked p b q ms) = q
 
 module _ {arities : List ℕ} {s : stages.Stage} {us : List Term} (h : Recorded arities s us) (w : Within s us) (v : stages.Verdict) (terms₀ facts₀ : List ℕ) where
   recorded-terms : LegibleTerms (recorded v s us terms₀ facts₀ .terms) (length (s .terms ++ us))

@@ -43,8 +43,8 @@ module _ (bs : List ℕ) where
       then-tested (byte bs 1 lastVersion 3 4) _ _ (λ v i.
       then-tested (number (wide v) bs 1 (mostPredicates v) 4 i) _ _ (λ n j.
       then-tested (many n (byte bs 1 4 4) j) _ _ (λ ar k.
-      sym (andThen-assoc (byte bs 0 64 5 k) (λ m l. many m (rule bs (signed v ar)) l) (λ rs e. tested (record { version = v; arities = ar; rules = rs }) e))
-      ∙ made-tested (andThen (byte bs 0 64 5 k) (λ m l. many m (rule bs (signed v ar)) l)) (λ (rs : List Rule). record { version = v; arities = ar; rules = rs }))))
+      sym (andThen-assoc (byte bs 0 64 5 k) (λ m l. many m (rule bs (signed v ar)) l) (λ rs e. tested (record { version = v; fixed = 0; arities = ar; rules = rs }) e))
+      ∙ made-tested (andThen (byte bs 0 64 5 k) (λ m l. many m (rule bs (signed v ar)) l)) (λ (rs : List Rule). record { version = v; fixed = 0; arities = ar; rules = rs }))))
 
 lengthened-is : (xs : List ℕ) (n : ℕ) → 4 ≤ length xs → lengthened xs n ≡ 0 ∷ 0 ∷ n / 256 ∷ n % 256 ∷ drop 4 xs
 lengthened-is [] n h = absurd (omega arith)

@@ -79,7 +79,7 @@ module _ (form : List ℕ) (version i v : ℕ) (here : v ≡ getD form 0 0) (mos
         past-count s after
         (writes-exact none none (λ bs. many v (byte bs 1 4 4) j) _ j arities ruled mid r2 mid2 h2 u2 k s after g arities
         (λ bs rest a d p. spelled-numbers 1 4 4 v bs arities rest a j k (length-numbersFrom form 6786 v) d p)
-        (writes-map (λ (rs : List Rule). record { version = version; arities = arities; rules = rs }) none none (λ bs. parsedRules bs (signed version arities) k) k _ mid2 s after (λ rs. refl) f))
+        (writes-map (λ (rs : List Rule). record { version = version; fixed = 0; arities = arities; rules = rs }) none none (λ bs. parsedRules bs (signed version arities) k) k _ mid2 s after (λ rs. refl) f))
 
 -- the version, and what follows it
 

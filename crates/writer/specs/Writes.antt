@@ -111,7 +111,7 @@ declaredBytes form version =
 unfoldable pub afterCount : List ℕ → ℕ → ℕ → ℕ → Parsed RuleSet
 afterCount bs version n i =
     andThen (many n (byte bs 1 4 4) i) (λ arities j.
-    andThen (parsedRules bs (signed version arities) j) (λ rs e. good (record { version = version; arities = arities; rules = rs }) e))
+    andThen (parsedRules bs (signed version arities) j) (λ rs e. good (record { version = version; fixed = 0; arities = arities; rules = rs }) e))
 
 unfoldable pub afterVersion : List ℕ → ℕ → ℕ → Parsed RuleSet
 afterVersion bs version i = andThen (number (wide version) bs 1 (mostPredicates version) 4 i) (λ n j. afterCount bs version n j)

@@ -47,7 +47,7 @@ whole-length c =
 read : (c : tie.After-read) → Parses none (parsedRules (c .before .before .before .before .before .before .before .before .before .before .before .before .before .args .bytes .now) (signed (version (c .before .before .before .before .before .before .before .before .before .before .before .before .before)) (arities (c .before .before .before .before .before .before .before .before .before .before .before .before .before))) (c .before .before .before .before .before .before .before .before .before .before .before .before .before .args .i)) (c .read .given .0 .0) (c .read .given .0 .1 .0)
 read c = step-good none _ _ _ (sym (c .read .given .1) ∙ c .before .before .before .before .rules .ensures .answer)
 
-stored : (c : tie.After-read) → whole (c .before .before .before .before) ≡ encoded (record { version = version (c .before .before .before .before .before .before .before .before .before .before .before .before .before); arities = arities (c .before .before .before .before .before .before .before .before .before .before .before .before .before); rules = read c .result })
+stored : (c : tie.After-read) → whole (c .before .before .before .before) ≡ encoded (record { version = version (c .before .before .before .before .before .before .before .before .before .before .before .before .before); fixed = 0; arities = arities (c .before .before .before .before .before .before .before .before .before .before .before .before .before); rules = read c .result })
 stored c =
     form-encoded (form (c .before .before .before .before .before .before .before .before .before .before .before .before .before)) (version (c .before .before .before .before .before .before .before .before .before .before .before .before .before)) (arities (c .before .before .before .before .before .before .before .before .before .before .before .before .before)) (places (c .before .before .before .before .before .before .before .before)) _ (read c .result) (c .before .before .before .before .before .before .before .before .before .before .before .before .before .pre .1) (c .before .before .before .before .before .before .before .before .before .before .before .before .before .pre .0 .few) (c .before .before .before .before .before .before .before .before .copy .ensures)
     (c .before .before .before .before .rules .ensures .stored _ _ (read c .parse))
