@@ -43,11 +43,11 @@ entry-well-formed {b} w {e} i = w .rules (e .rule) (entries-mem b i .rule)
 pub variable-range : {arities : List ℕ} {as' : List Atom} → WellFormedAtoms arities as' → {v : ℕ} → List·Memᴰ v (variablesOf as') → v ≤ 7
 variable-range {as' = as'} w {v} k = let (a, i, j) = variablesOf-mem as' k in w .each a i .range v j
 
--- versions before 3 name no constants
+-- no well-formed rule set states constants of its rules yet, of whatever version
 pub older-unnamed : {b : RuleSet} → WellFormed b → ltb 2 (b .version) ≡ false → b .fixed ≡ 0
 older-unnamed w h = w .unnamed
 
--- a constant that a well-formed atom names is one of those that are declared
+-- a well-formed atom names no constant yet, so that whatever it names is below any number
 pub constant-declared : {arities : List ℕ} {a : Atom} → WellFormedAtom arities a → {v : ℕ} → 8 ≤ v → List·Memᴰ v (a .variables) → (k : ℕ) → v - 8 < k
 constant-declared w {v} h m k = let r = w .range v m in absurd (omega arith)
 

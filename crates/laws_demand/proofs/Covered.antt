@@ -7,7 +7,7 @@ use mathlib.Core.List.{List, [], _∷_, map, List·Memᴰ, List·Memᴰ·not-nil
 use Prim.Native.Nat.{ℕ}
 use native.Mathlib.Nat.{zero-add}
 use lib.Dec.{ltb}
-use lib.ListN.{length, length-map}
+use lib.ListN.{length-map}
 use Rattle.model.specs.Lists.{any, extend}
 use Rattle.model.specs.Term.{Term, star, fixed, starred, cyclic}
 use Rattle.model.specs.Rules.{Rule, RuleSet, Disjunct, Entry, entries, inBody, universal, datalog}

@@ -8,17 +8,16 @@ use Prim.Native.Nat.{ℕ, suc, _+_, _-_, _≤_}
 use lib.Dec.{eqb}
 use Rattle.model.specs.Lists.{extend, index, collect}
 use Rattle.model.specs.Term.{Term, Terms, constant, fixed, skolem, list, terms}
-use Rattle.model.specs.Rules.{Atom, RuleSet, Disjunct, Entry, entries, inBody, frontier, existential, owns}
+use Rattle.model.specs.Rules.{Atom, RuleSet, Disjunct, entries, inBody, frontier, existential, owns}
 use Rattle.model.specs.WellFormed.{WellFormed}
-use Rattle.model.specs.Triggers.{Fact, sameFact, instantiate, headTerm, headFacts}
+use Rattle.model.specs.Triggers.{Fact, sameFact, headTerm, headFacts}
 use Rattle.model.specs.Demand.{Constants, none, more, known}
 use Rattle.laws.proofs.Bools.{case}
 use Rattle.laws.proofs.Lists.{collect-mem, map-mem, extend-left, extend-right, extend-mem}
 use Rattle.laws.proofs.Terms.{list-terms}
 use Rattle.laws.proofs.Facts.{sameFact-decides, mem-termsOf, termsOf-mem}
-use Rattle.laws.proofs.Rules.{universal-mem, frontier-mem, mem-existential, mem-variablesOf, entries-mem}
+use Rattle.laws.proofs.Rules.{universal-mem, frontier-mem, mem-existential, mem-variablesOf}
 use Rattle.laws.proofs.Triggers.{Loaded, Value, instantiate-mem, headTerm-universal, headTerm-existential, headFacts-mem, loaded-value}
-use Rattle.laws.proofs.WellFormed.{entry-well-formed}
 use Rattle.laws.proofs.Owners.{disjunctsOf, owns-existential}
 use Rattle.laws_published.proofs.Subterms.{subterms, skolem-function, skolem-arguments, subterms-constant, subterms-fixed, skolem-cases}
 use Rattle.laws_demand.proofs.Loaded.{Satisfied}

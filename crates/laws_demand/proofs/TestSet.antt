@@ -5,12 +5,12 @@ use mathlib.Core.Path.{_≡_, refl, sym, ap, _∙_, subst, subst₂}
 use mathlib.Core.Bool.{true, false}
 use mathlib.Core.Logic.{_⊎_, inl, inr}
 use mathlib.Core.List.{List, [], _∷_, map, List·Memᴰ, Memᴰ·cast}
-use Prim.Native.Nat.{ℕ, _-_, _≤_, _<_}
+use Prim.Native.Nat.{ℕ, _<_}
 use native.Mathlib.Omega.{arith}
 use lib.ListN.{length, getD, length-map}
 use Rattle.model.specs.Lists.{any, member}
 use Rattle.model.specs.Term.{Position, root, child, Term, Terms, star, constant, fixed, apart, fresh, skolem, none, more, list, terms, same}
-use Rattle.model.specs.Rules.{Rule, RuleSet, Disjunct, Entry, entries, variablesOf, inBody, universal, frontier}
+use Rattle.model.specs.Rules.{Rule, RuleSet, Disjunct, Entry, entries, inBody, universal, frontier}
 use Rattle.model.specs.WellFormed.{WellFormed, WellFormedRule}
 use Rattle.model.specs.Triggers.{Fact, assign, headFacts}
 use Rattle.model.specs.Published.{Renamed, renamed-constant, renamed-fixed, renamed-skolem, Apart, Template, Owner, Made, made-body, made-head, made-inner, TestBase, base-body, base-made, Blocked}

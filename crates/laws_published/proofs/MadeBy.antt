@@ -4,12 +4,12 @@ use mathlib.Core.Path.{_≡_, sym, _∙_, subst}
 use mathlib.Core.Bool.{true, false}
 use mathlib.Core.Logic.{_⊎_, inl, inr}
 use mathlib.Core.List.{List, map, List·Memᴰ, Memᴰ·cast}
-use Prim.Native.Nat.{ℕ, suc, _+_, _-_, _≤_}
+use Prim.Native.Nat.{ℕ, suc, _+_, _-_}
 use native.Mathlib.Omega.{arith}
 use lib.Dec.{eqb}
 use Rattle.model.specs.Lists.{member, index}
 use Rattle.model.specs.Term.{Term, Terms, star, fixed, fresh, skolem, list, terms}
-use Rattle.model.specs.Rules.{Rule, RuleSet, Disjunct, variablesOf, inBody, frontier, existential}
+use Rattle.model.specs.Rules.{Rule, RuleSet, Disjunct, inBody, frontier, existential}
 use Rattle.model.specs.Triggers.{Fact, assign, instantiate, headTerm, headFacts}
 use Rattle.model.specs.Published.{Template, Made, made-body, made-head, made-inner}
 use Rattle.laws.proofs.Bools.{case, not-both}

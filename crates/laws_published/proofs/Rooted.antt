@@ -7,7 +7,7 @@ use native.Mathlib.Omega.{arith}
 use lib.ListN.{length, getD}
 use Rattle.model.specs.Lists.{collect}
 use Rattle.model.specs.Term.{Position, root, child, Term, Terms, star, constant, apart, fresh, skolem, list}
-use Rattle.model.specs.Published.{Renamed, renamed-constant, renamed-fixed, renamed-skolem}
+use Rattle.model.specs.Published.{Renamed, renamed-constant, renamed-skolem}
 use Rattle.laws.proofs.Lists.{mem-getD, getD-mem, collect-mem}
 use Rattle.laws_published.proofs.Subterms.{subterms, skolem-cases, Inside, inside-subterm}
 

@@ -1,12 +1,11 @@
 -- What `testBase` computes is the published set that the Datalog rules close: a trigger's body and Fₜ of its terms. Assumes nothing.
 use mathlib.Core.Path.{_≡_}
-use mathlib.Core.Bool.{true}
-use mathlib.Core.Logic.{_↔_, _⊎_, inl, inr, ⊎-elim}
+use mathlib.Core.Logic.{_↔_, inl, inr, ⊎-elim}
 use mathlib.Core.List.{List, [], _++_, map, List·Memᴰ, List·Memᴰ·not-nil, List·Memᴰ·append-cases, Memᴰ·append-left, Memᴰ·append-right, Memᴰ·cast}
-use Prim.Native.Nat.{ℕ, _-_, _≤_}
+use Prim.Native.Nat.{ℕ, _-_}
 use Rattle.model.specs.Lists.{collect, extend}
 use Rattle.model.specs.Term.{Term, star, fixed}
-use Rattle.model.specs.Rules.{Rule, RuleSet, entries, variablesOf, inBody, universal}
+use Rattle.model.specs.Rules.{Rule, RuleSet, entries, universal}
 use Rattle.model.specs.Triggers.{Fact, sameFact, assign, instantiate}
 use Rattle.model.specs.Blocking.{made, testBase}
 use Rattle.model.specs.Published.{Substitution, TestBase, base-body, base-made}

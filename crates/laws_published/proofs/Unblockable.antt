@@ -1,5 +1,5 @@
--- Where rules name no constants, a rule that is not blockable has no blocked trigger in the published sense: its Skolem term over the renamed frontier would stand inside
--- what it is made of. Assumes nothing.
+-- Where rules name no constants, a rule that is not blockable has no blocked trigger in the published sense: its Skolem term over the renamed
+-- frontier would stand inside what it is made of. Assumes nothing.
 use mathlib.Core.Path.{_≡_, refl, sym, ap, _∙_, subst}
 use mathlib.Core.Bool.{Bool, true, false}
 use mathlib.Core.Logic.{_⊎_, inl, inr}
@@ -10,8 +10,8 @@ use lib.Dec.{eqb, ltb}
 use lib.ListN.{length}
 use borrow.Author.Tests.{eqb-false, eq-eqb, ltb-false}
 use Rattle.model.specs.Lists.{all, any, index}
-use Rattle.model.specs.Term.{Term, Terms, fixed, skolem, terms, size}
-use Rattle.model.specs.Rules.{Atom, Rule, RuleSet, Disjunct, Entry, entries, variablesOf, inBody, universal, frontier, existential, existentialFree, datalog, blockable}
+use Rattle.model.specs.Term.{Term, Terms, skolem, terms, size}
+use Rattle.model.specs.Rules.{Atom, Rule, RuleSet, Disjunct, Entry, entries, inBody, universal, frontier, existential, existentialFree, datalog, blockable}
 use Rattle.model.specs.WellFormed.{WellFormedRule, WellFormed}
 use Rattle.model.specs.Triggers.{Fact, assign, instantiate, headTerm}
 use Rattle.model.specs.Published.{Substitution, Apart, TestBase, base-body, base-made, Blocks, Blocked}

@@ -1,4 +1,5 @@
--- The [P] table, the table of misreadings, the order of records, both versions, other depths and the forms of River, each computed from the definitions that the promises use. Assumes nothing.
+-- The [P] table, the table of misreadings, the order of records, both versions, other depths, constants of the rules and the forms of River,
+-- each computed from the definitions that the promises use. Assumes nothing.
 use mathlib.Core.Path.{_≡_, refl}
 use mathlib.Core.List.{List, [], _∷_, _++_, map}
 use mathlib.Core.Bool.{Bool}
@@ -55,7 +56,7 @@ at-depths = refl
 -- Constants of the rules: verdict, stage, counts and both tables.
 pub with-constants :
     map (λ (c : Named). Tables.left 1 (c .book) (Stages.verdict 1 (c .book)) terms₀ facts₀) named ≡ map (λ (c : Named). expectedTables (c .verdict) (c .tables)) named
-unfolding ℕ-discrete Lists.all Lists.any Lists.keep Lists.extend Lists.index Lists.collect Lists.member Lists.padded Lists.row Term.same Term.list Term.terms Term.size Term.functions Term.meeting Term.nesting Term.cyclic Rules.wide Rules.mostPredicates Rules.variablesOf Rules.inBody Rules.universal Rules.frontier Rules.existential Rules.existentialFree Rules.datalog Rules.blockable Rules.repeated Rules.detached Rules.disjunctsFrom Rules.countSkolem Rules.entriesFrom Rules.entries Rules.owns Format.andThen Format.byte Format.number Format.many Format.variable Format.atom Format.atoms Format.sound Format.rule Format.stated Format.whole Format.ruleSet Format.read Triggers.sameAll Triggers.sameFact Triggers.present Triggers.termsOf Triggers.assign Triggers.valued Triggers.instantiate Triggers.assignments Triggers.holds Triggers.triggers Triggers.headTerm Triggers.headFacts Triggers.output Blocking.rename Blocking.renamed Blocking.template Blocking.origin Blocking.made Blocking.datalogOutput Blocking.saturate Blocking.testBase Blocking.testSet Blocking.blocked Stages.fixedFrom Stages.leaves Stages.tuples Stages.critical Stages.triggersIn Stages.contribution Stages.outputs Stages.grown Stages.stage Stages.cyclicTerms Stages.sizeOf Stages.tooLarge Stages.tooMany Stages.judge Stages.verdict Tables.number Tables.termRow Tables.factRow Tables.fronted Tables.recorded Tables.left named expectedTables
+unfolding run named expectedTables
 with-constants = refl
 
 -- which of the numbers from place p on are counted

@@ -1,5 +1,6 @@
 -- The published notions, as inductive definitions (001, Definitions 3 and 4; 004, Definitions 39 to 50). `Blocking` and `Stages` compute them,
--- and nothing of the two is used here. Assumes nothing.
+-- and nothing of the two is used here. Where rules name constants, which 004's do not, three notions go beyond the papers by document 02, C-16:
+-- `Renamed`, `Blocks` and `Leaf`. Assumes nothing.
 use mathlib.Core.Path.{_≡_}
 use mathlib.Core.List.{List, [], map, List·Memᴰ}
 use mathlib.Core.Bool.{Bool, true, false, _||_}
@@ -103,7 +104,7 @@ module _ (b : RuleSet) where
     leaf-star : Leaf star
     leaf-fixed : {c : ℕ} → c < b .fixed → Leaf (fixed c)
 
-  -- the critical instance: each predicate of ⋆ alone (001, Definition 3), and of the constants of the rules beside it
+  -- the critical instance: every fact over ⋆ (001, Definition 3); where rules name constants, over ⋆ and these (document 02, C-16)
   pub record Critical (f : Fact) : Type 0 where
     pub declared : f .predicate < length (b .arities)
     pub arity : length (f .arguments) ≡ getD (b .arities) (f .predicate) 0

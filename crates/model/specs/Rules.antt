@@ -18,8 +18,8 @@ pub record Rule : Type 0 where
   pub body : List Atom
   pub head : List (List Atom)
 
--- the version is that of its bytes (document 02, C-15), and says nothing of what the rules mean; the rules may name so many fixed constants
--- (document 02, C-16)
+-- The version is that of its bytes (document 02, C-15): no stage, verdict or table looks at it, and of the published notions only which rules
+-- may be blocked. The rules may name so many constants (document 02, C-16).
 pub record RuleSet : Type 0 where
   pub version : ℕ
   pub fixed : ℕ
@@ -33,6 +33,7 @@ wide version = ltb 1 version
 unfoldable pub mostPredicates : ℕ → ℕ
 mostPredicates version = elim (wide version) [ true ↦ predicateLimit | false ↦ narrowLimit ]
 
+-- the numbers in atoms: variables, and constants of the rules
 unfoldable pub variablesOf : List Atom → List ℕ
 variablesOf atoms = collect (λ (a : Atom). a .variables) atoms
 
@@ -63,7 +64,8 @@ existentialFree r d = eqb (length (existential r d)) 0
 unfoldable pub datalog : Rule → Bool
 datalog r = eqb (length (r .head)) 1 && all (existentialFree r) (r .head)
 
--- document 01: divided. Only these rules can have a blocked trigger, which is a theorem.
+-- document 01: divided. Only these rules can have a blocked trigger: a theorem where rules name no constants, and said by document 02, C-16,
+-- from version 3 on.
 unfoldable pub blockable : Rule → Bool
 blockable r = ltb 1 (length (r .head)) && any (existentialFree r) (r .head)
 

@@ -3,7 +3,7 @@
 use mathlib.Core.Path.{_≡_, refl, sym, ap, _∙_}
 use mathlib.Core.Bool.{Bool, true, false, _&&_, _||_, not, or-false}
 use mathlib.Core.Logic.{_⊎_, inl, inr}
-use mathlib.Core.List.{List, [], _∷_, _++_, List·Memᴰ, append-nil}
+use mathlib.Core.List.{List, [], _∷_, _++_, append-nil}
 use Prim.Native.Nat.{ℕ, _-_, _≤_, _<_}
 use native.Mathlib.Decide.{decLt}
 use native.Mathlib.Omega.{arith}
@@ -11,10 +11,10 @@ use lib.Dec.{eqb}
 use lib.Bits.{bitOr, bitAnd, or-add-and, and-le-l, and-le-r}
 use borrow.Author.Tests.{eq-eqb, ne-eqb, not-true}
 use Rattle.model.specs.Lists.{any, member, collect}
-use Rattle.model.specs.Rules.{Atom, Rule, variablesOf, names, inBody, existential, repeated, detached}
+use Rattle.model.specs.Rules.{Atom, Rule, variablesOf, inBody, existential, repeated, detached}
 use Rattle.model.specs.Format.{Parsed, good, bad, sound}
 use Rattle.laws.proofs.Bools.{case, not-both, and-true, true-and, both-ways}
-use Rattle.laws.proofs.Lists.{any-mem, mem-any, keep-mem, member-mem, mem-member, any-append, collect-append}
+use Rattle.laws.proofs.Lists.{any-mem, mem-any, member-mem, mem-member, any-append, collect-append}
 use Rattle.laws.proofs.Rules.{inBody-small, inBody-member, existential-mem, existential-small, mem-existential}
 use Rattle.form_variables.specs.Sets.{has, setOf}
 use Rattle.parsing.specs.Step.{atomSet, atomsSet}
