@@ -1,8 +1,21 @@
 //! One rule set through the reference and through the library.
 
 use crate::random::Random;
-use reference::{book, convert, form, stages, Verdict};
+use reference::{book, convert, form, stages, Book, Verdict, Version};
 use rulfjen::{books, lists};
+
+/// The versions that the library reads. The reference reads all of them.
+pub const OF_LIBRARY: [Version; 2] = [Version::One, Version::Two];
+
+/// Whether a number is that of a version, but of none of these.
+fn is_other(number: u16, versions: &[Version]) -> bool {
+    Version::of(number).is_some_and(|version| !versions.contains(&version))
+}
+
+/// Whether a rule set is of a version that is not to be compared.
+pub fn is_left_out(book: &[u8], versions: &[Version]) -> bool {
+    book.get(4).is_some_and(|&number| is_other(number as u16, versions))
+}
 
 /// A list's length: what is asked for, or some more, or one less now and then.
 fn length(random: &mut Random, front: usize) -> usize {
@@ -69,9 +82,9 @@ fn expect_list<T: PartialEq + std::fmt::Debug>(what: &str, reference: &[T], libr
     }
 }
 
-/// Compares answers, tables and text at some depth; answers what the reference says on lists of the right length, and on
-/// these.
-pub fn compare(book: &[u8], random: &mut Random) -> Result<(stages::Checked, Verdict), String> {
+/// Compares answers, tables and text at some depth, and forms of these versions; answers what the reference says on lists
+/// of the right length, and on these.
+pub fn compare(book: &[u8], versions: &[Version], random: &mut Random) -> Result<(stages::Checked, Verdict), String> {
     let depth = depth(random);
     let checked = reference::check_at(book, depth.clamp(1, 3));
 
@@ -93,7 +106,7 @@ pub fn compare(book: &[u8], random: &mut Random) -> Result<(stages::Checked, Ver
     expect("length of the text", &printed, &library_printed)?;
     expect_list("byte of the text", &text, &library_text)?;
 
-    compare_forms(book, random)?;
+    compare_forms(book, versions, random)?;
     compare_converted(book, random)?;
     Ok((checked, verdict))
 }
@@ -102,8 +115,34 @@ pub fn compare(book: &[u8], random: &mut Random) -> Result<(stages::Checked, Ver
 const NUMBERS: [u16; 24] =
     [0, 1, 1, 2, 2, 3, 4, 5, 7, 8, 63, 64, 65, 255, 256, 257, 258, 512, 513, 1_023, 1_024, 1_025, 1_026, 65_535];
 
+/// Numbers on either side of what version 3 has of rule constants, in forms and in bytes.
+const CONSTANT_NUMBERS: [u16; 18] = [0, 1, 2, 3, 4, 5, 7, 8, 9, 10, 11, 12, 127, 128, 130, 131, 256, 264];
+
+/// A place of a form and a number for it.
+fn change(random: &mut Random) -> (usize, u16) {
+    let at = match random.within(0, 5) {
+        0 => random.within(0, 1),
+        1 => random.within(0, 12),
+        2 => 2 + random.within(0, 5) * form::RULE + random.within(0, form::RULE - 1),
+        3 => random.within(form::ARITIES, form::VERSION - 1),
+        4 => form::VERSION,
+        _ => random.within(form::ARITIES, form::LENGTH - 1),
+    };
+    (at, random.one_of(&NUMBERS))
+}
+
+/// The same, often the count of rule constants, or an argument of a rule's first atoms.
+fn change_constants(random: &mut Random) -> (usize, u16) {
+    let at = match random.within(0, 3) {
+        0 => form::CONSTANTS,
+        1 => 2 + random.within(0, 3) * form::RULE + random.one_of(&[3, 4, 24, 25, 45]),
+        _ => return change(random),
+    };
+    (at, random.one_of(&CONSTANT_NUMBERS))
+}
+
 /// Compares reading, and writing of forms that are whole, changed or short.
-fn compare_forms(book: &[u8], random: &mut Random) -> Result<(), String> {
+fn compare_forms(book: &[u8], versions: &[Version], random: &mut Random) -> Result<(), String> {
     let form_length = length(random, form::LENGTH);
     let mut form = dirt(random, form_length);
     let mut library_form = form.clone();
@@ -114,18 +153,12 @@ fn compare_forms(book: &[u8], random: &mut Random) -> Result<(), String> {
     if read.is_err() && !random.once_in(8) {
         return Ok(());
     }
-    compare_written(&form, random)?;
+    compare_written(&form, versions, random)?;
+    let changes = if versions.contains(&Version::Three) { change_constants } else { change };
     for _ in 0..random.within(1, 3) {
-        let at = match random.within(0, 5) {
-            0 => random.within(0, 1),
-            1 => random.within(0, 12),
-            2 => 2 + random.within(0, 5) * form::RULE + random.within(0, form::RULE - 1),
-            3 => random.within(form::ARITIES, form::VERSION - 1),
-            4 => form::VERSION,
-            _ => random.within(form::ARITIES, form::LENGTH - 1),
-        };
+        let (at, changed) = changes(random);
         if let Some(number) = form.get_mut(at) {
-            *number = random.one_of(&NUMBERS);
+            *number = changed;
         }
     }
     if random.once_in(10) {
@@ -135,10 +168,10 @@ fn compare_forms(book: &[u8], random: &mut Random) -> Result<(), String> {
             _ => random.within(0, form.len()),
         });
     }
-    compare_written(&form, random)
+    compare_written(&form, versions, random)
 }
 
-fn compare_written(form: &[u16], random: &mut Random) -> Result<(), String> {
+fn compare_written(form: &[u16], versions: &[Version], random: &mut Random) -> Result<(), String> {
     let room = form::write_form(form, &mut [0; book::LONGEST]).unwrap_or(100);
     let list_length = match random.within(0, 9) {
         0 => room - 1,
@@ -147,6 +180,10 @@ fn compare_written(form: &[u16], random: &mut Random) -> Result<(), String> {
         _ => room + random.within(1, 40),
     };
     let mut out = bytes(&dirt(random, list_length));
+    // behind the random numbers, so that a seed has the same ones whatever is compared
+    if form.get(form::VERSION).is_some_and(|&number| is_other(number, versions)) {
+        return Ok(());
+    }
     let mut library_out = out.clone();
     let written = form::write_form(form, &mut out);
     let library_written = same_transfer(lists::write(form, &mut library_out));
@@ -162,7 +199,7 @@ const CONVERTERS: [(&str, Converter<reference::Refusal>, Converter<rulfjen::Refu
 /// Compares both converters, on lists of any length that are not clear.
 fn compare_converted(book: &[u8], random: &mut Random) -> Result<(), String> {
     for (what, of_reference, of_library) in CONVERTERS {
-        let room = length(random, book::LONGEST);
+        let room = length(random, convert::ROOM);
         let mut out = bytes(&dirt(random, room));
         let mut library_out = out.clone();
         let converted = of_reference(book, &mut out);
@@ -176,7 +213,7 @@ fn compare_converted(book: &[u8], random: &mut Random) -> Result<(), String> {
 /// The rule set in its other version, by the library, if it has one.
 fn converted(book: &[u8]) -> Option<Vec<u8>> {
     CONVERTERS.iter().find_map(|(_, _, convert)| {
-        let mut out = vec![0; book::LONGEST];
+        let mut out = vec![0; convert::ROOM];
         let length = convert(book, &mut out).ok()?;
         out.truncate(length);
         Some(out)
@@ -197,12 +234,30 @@ pub fn same_in_both_versions(book: &[u8]) -> Result<bool, String> {
     if converted(&other).as_deref() != Some(book) {
         return Err("converted back: other bytes".to_string());
     }
-    let ((verdict, terms, facts), (other_verdict, other_terms, other_facts)) = (tables(book), tables(&other));
+    same_tables(book, &other)?;
+    Ok(true)
+}
+
+/// Where a rule set of version 3 has no rule constants: the library gives the same verdict and tables on it in version 2.
+/// Answers whether it is such a one.
+pub fn same_without_constants(book: &[u8]) -> Result<bool, String> {
+    match reference::read(book) {
+        Ok(read) if read.version == Version::Three && read.constants == 0 => {
+            same_tables(book, &Book { version: Version::Two, ..read }.bytes())?;
+            Ok(true)
+        }
+        _ => Ok(false),
+    }
+}
+
+/// The library's verdict and tables are the same on both.
+fn same_tables(book: &[u8], other: &[u8]) -> Result<(), String> {
+    let ((verdict, terms, facts), (other_verdict, other_terms, other_facts)) = (tables(book), tables(other));
     if verdict != other_verdict {
         return Err(format!("versions {} and {}: {verdict:?}, {other_verdict:?}", book[4], other[4]));
     }
     if terms != other_terms || facts != other_facts {
         return Err(format!("versions {} and {}: other tables", book[4], other[4]));
     }
-    Ok(true)
+    Ok(())
 }

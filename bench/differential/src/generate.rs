@@ -39,15 +39,7 @@ const SHARES: [(Class, usize); 13] = [
 ];
 
 pub fn generate(random: &mut Random) -> (Class, Vec<u8>) {
-    let mut share = random.within(0, 99);
-    let mut class = Class::Small;
-    for (candidate, count) in SHARES {
-        if share < count {
-            class = candidate;
-            break;
-        }
-        share -= count;
-    }
+    let class = random.by_share(&SHARES);
     (class, of_class(class, random))
 }
 
@@ -59,9 +51,9 @@ pub(crate) fn of_class(class: Class, random: &mut Random) -> Vec<u8> {
         Class::Divided => divided(random).book.bytes(),
         Class::Layered => layered(random).book.bytes(),
         Class::Places => shuffled(places(random), random).book.bytes(),
-        Class::TestSet => test_set(random).book.bytes(),
-        Class::Facts => shuffled(facts(random), random).book.bytes(),
-        Class::Terms => shuffled(terms(random), random).book.bytes(),
+        Class::TestSet => test_set(random, &Draft::default()).book.bytes(),
+        Class::Facts => shuffled(facts(random, &Draft::default()), random).book.bytes(),
+        Class::Terms => shuffled(terms(random, &Draft::default()), random).book.bytes(),
         Class::Crowded => shuffled(crowded(random), random).book.bytes(),
         Class::Long => {
             let wide = random.once_in(2);
@@ -92,23 +84,24 @@ pub fn shuffled(mut draft: Draft, random: &mut Random) -> Draft {
         rule.disjuncts.iter_mut().for_each(|disjunct| random.shuffle(disjunct));
         for atom in rule.body.iter_mut().chain(rule.disjuncts.iter_mut().flatten()) {
             atom.predicate = order[atom.predicate as usize] as u16;
-            for v in &mut atom.variables[..atom.arity as usize] {
-                *v = variables[*v as usize];
+            for argument in &mut atom.arguments[..atom.arity as usize] {
+                // a rule constant stays
+                *argument = variables.get(*argument as usize).copied().unwrap_or(*argument);
             }
         }
     }
     draft
 }
 
-/// A random atom over variables of a pool.
+/// A random atom over arguments of a pool.
 fn atom(random: &mut Random, arities: &[u8], pool: &[u8]) -> Atom {
     let predicate = random.within(0, arities.len() - 1);
     let arity = arities[predicate];
-    let mut variables = [0; 4];
-    for v in &mut variables[..arity as usize] {
-        *v = random.one_of(pool);
+    let mut arguments = [0; 4];
+    for argument in &mut arguments[..arity as usize] {
+        *argument = random.one_of(pool);
     }
-    Atom { predicate: predicate as u16, arity, variables }
+    Atom { predicate: predicate as u16, arity, arguments }
 }
 
 fn body_variables(body: &[Atom]) -> Vec<u8> {
@@ -117,7 +110,7 @@ fn body_variables(body: &[Atom]) -> Vec<u8> {
 }
 
 /// A random rule. Where it is to be sound, each disjunct has a body variable, and its own existential ones.
-fn rule(random: &mut Random, arities: &[u8], most_disjuncts: usize, sound: bool) -> Rule {
+pub(crate) fn rule(random: &mut Random, arities: &[u8], most_disjuncts: usize, sound: bool) -> Rule {
     loop {
         let width = random.within(1, 4);
         let mut pool: Vec<u8> = (0..8).collect();
@@ -160,7 +153,7 @@ fn random_book(random: &mut Random, most_predicates: usize, most_rules: usize, s
     let arities = arities(random, most_predicates);
     let count = random.within(0, most_rules);
     let rules = (0..count).map(|_| rule(random, &arities, 3, sound)).collect();
-    Book { version: Version::One, arities, rules }
+    Book { arities, rules, ..Book::default() }
 }
 
 /// Existential rules from level to level, Datalog between the levels, now and then a way back.
@@ -395,11 +388,11 @@ fn places(random: &mut Random) -> Draft {
     }
 }
 
-const LETTERS: [u8; 4] = [0, 1, 2, 3];
+pub(crate) const LETTERS: [u8; 4] = [0, 1, 2, 3];
 
 /// Adds Datalog rules that derive all tuples over `base`, of predicates of their own, so that where `base` has `n`
 /// facts they add about `room` in all.
-fn products(random: &mut Random, draft: &mut Draft, base: usize, n: usize, mut room: usize) {
+pub(crate) fn products(random: &mut Random, draft: &mut Draft, base: usize, n: usize, mut room: usize) {
     for arity in (1..=4usize).rev() {
         let each = n.pow(arity as u32);
         let most =
@@ -415,11 +408,11 @@ fn products(random: &mut Random, draft: &mut Draft, base: usize, n: usize, mut r
     }
 }
 
-/// Test sets of about 1,024 facts.
-fn test_set(random: &mut Random) -> Draft {
+/// Test sets of about 1,024 facts, in a draft that begins so.
+pub(crate) fn test_set(random: &mut Random, start: &Draft) -> Draft {
     let target = random.one_of(&[900, 1_020, 1_023, 1_024, 1_024, 1_024, 1_025, 1_025, 1_026, 1_030]);
     loop {
-        let mut draft = Draft::default();
+        let mut draft = start.clone();
         let wide = random.within(2, 4);
         let source = draft.predicate(wide);
         let each = draft.predicate(1);
@@ -482,7 +475,7 @@ fn counts(checked: &Checked) -> Option<(usize, usize)> {
 }
 
 /// A few terms in one predicate, made from predicate 0: the predicate, one that holds them some stages later, and their
-/// count.
+/// count with ⋆ and the rule constants.
 fn crowd(random: &mut Random, draft: &mut Draft) -> (usize, usize, usize) {
     let new = random.within(1, 6);
     let source = draft.predicate(1);
@@ -502,7 +495,7 @@ fn crowd(random: &mut Random, draft: &mut Draft) -> (usize, usize, usize) {
         draft.rule(&[(late, &[0])], &[&[(later, &[0])]]);
         late = later;
     }
-    (each, late, new + 1)
+    (each, late, (new + 1) * draft.plain_terms())
 }
 
 /// Many facts and many terms in the same stage, often with a cyclic one among them.
@@ -545,36 +538,42 @@ fn back(random: &mut Random, mut draft: Draft, each: usize) -> Draft {
     draft
 }
 
-/// Stages of about 2,048 facts.
-fn facts(random: &mut Random) -> Draft {
-    let target = random.one_of(&[1_900, 2_047, 2_048, 2_048, 2_048, 2_049, 2_049, 2_060]);
+/// Stages of about 2,048 facts, in a draft that begins so.
+pub(crate) fn facts(random: &mut Random, start: &Draft) -> Draft {
+    let target: usize = random.one_of(&[1_900, 2_047, 2_048, 2_048, 2_048, 2_049, 2_049, 2_060]);
     loop {
-        let mut draft = Draft::default();
+        let mut draft = start.clone();
         let (each, late, n) = crowd(random, &mut draft);
         if random.once_in(3) {
             let (lone, one, two) = (draft.predicate(1), draft.predicate(1), draft.predicate(2));
             draft.rule(&[(lone, &[0])], &[&[(one, &[0])], &[(two, &[0, 1])]]);
         }
         let Some((before, _)) = counts(&check(&draft.book.bytes())) else { continue };
-        products(random, &mut draft, late, n, target.min(2_048) - before);
+        products(random, &mut draft, late, n, target.min(2_048).saturating_sub(before));
         let Some((reached, _)) = counts(&check(&draft.book.bytes())) else { continue };
         if target < reached || target - reached > draft.predicates_left() {
             continue;
         }
-        for _ in reached..target {
-            draft.predicate(random.within(1, 4));
+        let plain = draft.plain_terms();
+        let mut missing = target - reached;
+        while missing >= plain {
+            let arity = random.within(1, 4);
+            let arity = if plain.pow(arity as u32) <= missing { arity } else { 1 };
+            draft.predicate(arity);
+            missing -= plain.pow(arity as u32);
         }
         return back(random, draft, each);
     }
 }
 
-/// Stages of about 512 terms.
-fn terms(random: &mut Random) -> Draft {
+/// Stages of about 512 terms, in a draft that begins so.
+pub(crate) fn terms(random: &mut Random, start: &Draft) -> Draft {
     let target: usize = random.one_of(&[450, 511, 512, 512, 512, 513, 513, 514, 520]);
+    let plain = start.plain_terms();
     loop {
-        let mut draft = Draft::default();
+        let mut draft = start.clone();
         let (each, late, n) = crowd(random, &mut draft);
-        let mut left = target - 1 - (n - 1);
+        let mut left = target - n;
         let sketches: Vec<[u8; 1]> = LETTERS.iter().map(|&v| [v]).collect();
         for arity in (1..=3usize).rev() {
             let most = (left / n.pow(arity as u32)).min(3);
@@ -586,18 +585,18 @@ fn terms(random: &mut Random) -> Draft {
                 left -= n.pow(arity as u32);
             }
         }
-        if left > 7 * draft.rules_left().min(draft.predicates_left()) {
+        if left / plain > 7 * draft.rules_left().min(draft.predicates_left()) {
             continue;
         }
         let wide = draft.predicate(4);
-        while left > 0 && draft.predicates_left() > 1 && draft.rules_left() > 0 {
+        while left >= plain && draft.predicates_left() > 1 && draft.rules_left() > 0 {
             let own = draft.predicate(1);
-            let new = left.min(7) as u8;
+            let new = (left / plain).min(7) as u8;
             let over: Vec<u8> = (1..=new).chain([0; 8]).collect();
             draft.rule(&[(own, &[0])], &[&[(wide, &over[..4]), (wide, &over[4..8]), (own, &[0])]]);
-            left -= new as usize;
+            left -= new as usize * plain;
         }
-        if left == 0 {
+        if left < plain {
             return back(random, draft, each);
         }
     }
@@ -629,7 +628,7 @@ pub(crate) fn long(random: &mut Random, version: Version, predicates: usize, wid
             }
         })
         .collect();
-    Book { version, arities, rules }
+    Book { version, arities, rules, ..Book::default() }
 }
 
 /// What a byte of a rule set says. Of a number of two bytes the first has a role of its own.
@@ -639,27 +638,29 @@ pub(crate) enum Role {
     PredicatesHigh,
     Predicates,
     Arity,
+    Constants,
     Rules,
     Count,
     PredicateHigh,
     Predicate,
-    Variable,
+    Argument,
 }
 
 /// Of each byte behind the length.
 pub(crate) fn roles(book: &Book) -> Vec<Role> {
-    let high = |role: Role| (book.version == Version::Two).then_some(role);
+    let high = |role: Role| (book.version.width() == 2).then_some(role);
     let mut roles = vec![Role::Version];
     roles.extend(high(Role::PredicatesHigh));
     roles.push(Role::Predicates);
     roles.extend(book.arities.iter().map(|_| Role::Arity));
+    roles.extend((book.version == Version::Three).then_some(Role::Constants));
     roles.push(Role::Rules);
     let atoms = |atoms: &[Atom], roles: &mut Vec<Role>| {
         roles.push(Role::Count);
         for atom in atoms {
             roles.extend(high(Role::PredicateHigh));
             roles.push(Role::Predicate);
-            roles.extend(atom.variables().iter().map(|_| Role::Variable));
+            roles.extend(atom.arguments().iter().map(|_| Role::Argument));
         }
     };
     for rule in &book.rules {
@@ -686,7 +687,7 @@ pub(crate) fn mend(bytes: &mut [u8]) {
 
 /// A role for a byte to be changed: that of any byte, or one that few bytes have.
 fn chosen(random: &mut Random, roles: &[Role], version: Version) -> Role {
-    use Role::{Count, Predicate, PredicateHigh, Predicates, PredicatesHigh, Rules, Version as V};
+    use Role::{Argument, Constants, Count, Predicate, PredicateHigh, Predicates, PredicatesHigh, Rules, Version as V};
     let any = roles[random.within(0, roles.len() - 1)];
     match version {
         Version::One => random.one_of(&[any, any, V, Predicates, Rules, Count]),
@@ -702,18 +703,24 @@ fn chosen(random: &mut Random, roles: &[Role], version: Version) -> Role {
             Rules,
             Count,
         ]),
+        Version::Three => {
+            random.one_of(&[any, any, V, Constants, Constants, Argument, Argument, Argument, Rules, Count])
+        }
     }
 }
 
 /// A value for a byte of a role, just out of its range, or at its end.
 fn value(random: &mut Random, role: Role, book: &Book) -> u8 {
     let count = book.arities.len();
+    let beyond = 128 + book.constants;
     match (role, book.version) {
         (Role::Version, Version::One) => random.one_of(&[0, 2, 255]),
         (Role::Version, Version::Two) => random.one_of(&[0, 1, 3, 255]),
+        (Role::Version, Version::Three) => random.one_of(&[0, 1, 2, 4, 255]),
         (Role::PredicatesHigh, _) => random.one_of(&[0, 1, 3, 4, 5, 255]),
         (Role::Predicates, _) => random.one_of(&[0, 65, 64, 255, 1]),
         (Role::Arity, _) => random.one_of(&[0, 5, 4, 1]),
+        (Role::Constants, _) => random.one_of(&[0, 1, 2, 3, 4, 255]),
         (Role::Rules, _) => random.one_of(&[65, 64, 0, 255]),
         (Role::Count, _) => random.one_of(&[0, 5, 4, 1]),
         (Role::PredicateHigh, _) => {
@@ -721,7 +728,8 @@ fn value(random: &mut Random, role: Role, book: &Book) -> u8 {
             random.one_of(&[last, last + 1, 0, 4, 255])
         }
         (Role::Predicate, _) => random.one_of(&[count as u8, (count - 1) as u8, 255]),
-        (Role::Variable, _) => random.one_of(&[8, 7, 0, 255]),
+        (Role::Argument, Version::Three) => random.one_of(&[beyond, beyond - 1, 128, 131, 127, 8, 7, 0, 255]),
+        (Role::Argument, _) => random.one_of(&[8, 7, 0, 255]),
     }
 }
 

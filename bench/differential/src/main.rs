@@ -3,14 +3,17 @@
 //!     differential vectors FOLDER          the library on NAME.book must print NAME.txt, and NAME-depthD.txt at depth D
 //!     differential cases FILE..            the library on the books of files of cases, to which `cases` holds the reference
 //!     differential [versions] [SEED [COUNT]]
-//!                                          generated rule sets from a seed, 20,000 by default; of both versions, and in
+//!                                          generated rule sets from a seed, 20,000 by default; of versions 1 and 2, and in
 //!                                          both where that can be
 //!     differential [versions] SEED only INDEX
 //!                                          one of them, written to standard output
+//!     differential fixed ..                rule sets of version 3 in the same ways, and cases with those of version 3
+//!
+//! The library does not read version 3 yet. Without the word `fixed` no rule set and no form of it is compared.
 
 use differential::random::Random;
-use differential::{compare, generate, wide};
-use reference::Verdict;
+use differential::{compare, fixed, generate, wide};
+use reference::{Verdict, Version};
 use std::collections::BTreeMap;
 use std::io::Write;
 use std::time::{Duration, Instant};
@@ -40,13 +43,17 @@ fn vectors(folder: &str) -> std::io::Result<bool> {
 }
 
 /// The books of files of cases, each with lists and depths by lot, some times.
-fn cases(files: &[String]) -> std::io::Result<bool> {
-    let (mut agree, mut differ) = (0, 0);
+fn cases(files: &[String], versions: &[Version]) -> std::io::Result<bool> {
+    let (mut agree, mut differ, mut left_out) = (0, 0, 0);
     for file in files {
         for case in reference::cases::cases(&std::fs::read_to_string(file)?) {
             let book = case.book();
+            if compare::is_left_out(&book, versions) {
+                left_out += 1;
+                continue;
+            }
             let compared = (0..10).try_for_each(|index| {
-                compare::compare(&book, &mut Random::new(agree as u64, index))?;
+                compare::compare(&book, versions, &mut Random::new(agree + left_out, index))?;
                 compare::same_in_both_versions(&book).map(|_| ())
             });
             match compared {
@@ -58,8 +65,16 @@ fn cases(files: &[String]) -> std::io::Result<bool> {
             }
         }
     }
-    println!("books of cases: {agree} agree, {differ} differ");
+    println!("books of cases: {agree} agree, {differ} differ{}", and_left_out(left_out));
     Ok(differ == 0 && agree > 0)
+}
+
+/// What is said of rule sets that are not compared, if there are any.
+fn and_left_out(count: u64) -> String {
+    match count {
+        0 => String::new(),
+        _ => format!(", {count} of version 3 left out"),
+    }
 }
 
 fn row_of(verdict: Verdict) -> String {
@@ -84,11 +99,12 @@ struct Tally {
     time: Duration,
 }
 
-/// What is compared: rule sets of version 1, or of both versions.
+/// What is compared: rule sets of version 1, of versions 1 and 2, or of version 3.
 #[derive(Clone, Copy, PartialEq, Eq)]
 enum Subject {
     One,
     Both,
+    Fixed,
 }
 
 /// A class, with its place among the columns.
@@ -105,6 +121,27 @@ impl Subject {
                 let (class, book) = wide::generate(random);
                 ((class as usize, format!("{class:?}")), book)
             }
+            Subject::Fixed => {
+                let (class, book) = fixed::generate(random);
+                ((class as usize, format!("{class:?}")), book)
+            }
+        }
+    }
+
+    /// The versions that rule sets and forms are compared in.
+    fn versions(self) -> &'static [Version] {
+        match self {
+            Subject::One | Subject::Both => &compare::OF_LIBRARY,
+            Subject::Fixed => &Version::ALL,
+        }
+    }
+
+    /// Compares the library's answers in two versions where a rule set has another; answers whether it has.
+    fn same_in_another(self, book: &[u8]) -> Result<bool, String> {
+        match self {
+            Subject::One => Ok(false),
+            Subject::Both => compare::same_in_both_versions(book),
+            Subject::Fixed => compare::same_without_constants(book),
         }
     }
 
@@ -113,6 +150,7 @@ impl Subject {
         match self {
             Subject::One => "differential",
             Subject::Both => "differential versions",
+            Subject::Fixed => "differential fixed",
         }
     }
 }
@@ -120,16 +158,18 @@ impl Subject {
 fn generated(subject: Subject, seed: u64, count: u64) -> bool {
     println!("seed {seed}, {count} rule sets");
     let mut tallies: BTreeMap<Class, Tally> = BTreeMap::new();
-    let mut differ = 0;
+    let (mut differ, mut left_out) = (0, 0);
     let mut slowest = (Duration::ZERO, 0);
     for index in 0..count {
         let mut random = Random::new(seed, index);
         let (class, book) = subject.generate(&mut random);
+        if compare::is_left_out(&book, subject.versions()) {
+            left_out += 1;
+            continue;
+        }
         let start = Instant::now();
-        let compared = compare::compare(&book, &mut random).and_then(|(checked, verdict)| {
-            let both = subject == Subject::Both && compare::same_in_both_versions(&book)?;
-            Ok((checked, verdict, both))
-        });
+        let compared = compare::compare(&book, subject.versions(), &mut random)
+            .and_then(|(checked, verdict)| Ok((checked, verdict, subject.same_in_another(&book)?)));
         match compared {
             Ok((checked, verdict, both)) => {
                 let tally = tallies.entry(class).or_default();
@@ -154,7 +194,8 @@ fn generated(subject: Subject, seed: u64, count: u64) -> bool {
     }
     print_tallies(&tallies);
     println!("the slowest: rule set {}, {:.1?}", slowest.1, slowest.0);
-    println!("{}: {} agree, {differ} differ", subject.words(), count - differ);
+    let agree = count - differ - left_out;
+    println!("{}: {agree} agree, {differ} differ{}", subject.words(), and_left_out(left_out));
     differ == 0
 }
 
@@ -188,15 +229,18 @@ fn print_tallies(tallies: &BTreeMap<Class, Tally>) {
 
 fn main() -> std::io::Result<()> {
     let mut words: Vec<String> = std::env::args().skip(1).collect();
-    let mut subject = Subject::One;
-    if words.first().is_some_and(|word| word == "versions") {
-        subject = Subject::Both;
+    let subject = match words.first().map(String::as_str) {
+        Some("versions") => Subject::Both,
+        Some("fixed") => Subject::Fixed,
+        _ => Subject::One,
+    };
+    if subject != Subject::One {
         words.remove(0);
     }
     let number = |k: usize, default: u64| words.get(k).map_or(default, |word| word.parse().expect("a number"));
     let good = match words.iter().map(String::as_str).collect::<Vec<_>>()[..] {
         ["vectors", folder] => vectors(folder)?,
-        ["cases", ..] => cases(&words[1..])?,
+        ["cases", ..] => cases(&words[1..], subject.versions())?,
         [_, "only", _] => {
             let mut random = Random::new(number(0, 0), number(2, 0));
             let (_, book) = subject.generate(&mut random);

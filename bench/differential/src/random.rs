@@ -32,6 +32,18 @@ impl Random {
         choices[self.within(0, choices.len() - 1)]
     }
 
+    /// One of the choices, each as often as its share in a hundred.
+    pub fn by_share<T: Copy>(&mut self, shares: &[(T, usize)]) -> T {
+        let mut share = self.within(0, 99);
+        for &(choice, count) in shares {
+            if share < count {
+                return choice;
+            }
+            share -= count;
+        }
+        panic!("shares of less than a hundred")
+    }
+
     pub fn shuffle<T>(&mut self, list: &mut [T]) {
         for k in (1..list.len()).rev() {
             list.swap(k, self.within(0, k));

@@ -3,6 +3,7 @@
 
 use crate::generate::{self, damage, long, mend, of_class, roles, Role};
 use crate::random::Random;
+use reference::book::read_as;
 use reference::{read, Book, Version};
 
 #[derive(Clone, Copy, PartialEq, Eq, PartialOrd, Ord, Debug)]
@@ -30,15 +31,7 @@ const SHARES: [(Class, usize); 6] = [
 ];
 
 pub fn generate(random: &mut Random) -> (Class, Vec<u8>) {
-    let mut share = random.within(0, 99);
-    let mut class = Class::Narrow;
-    for (candidate, count) in SHARES {
-        if share < count {
-            class = candidate;
-            break;
-        }
-        share -= count;
-    }
+    let class = random.by_share(&SHARES);
     let bytes = match class {
         Class::Narrow => narrow(random),
         Class::Wide => widened(narrow(random)),
@@ -51,7 +44,7 @@ pub fn generate(random: &mut Random) -> (Class, Vec<u8>) {
 }
 
 /// A rule set of version 1, of the classes that do not take the reference long at depth 3.
-fn narrow(random: &mut Random) -> Vec<u8> {
+pub(crate) fn narrow(random: &mut Random) -> Vec<u8> {
     use generate::Class::{Damaged, Divided, Facts, Layered, Long, Nested, Places, Small, Terms, TestSet, Unsound};
     let class = random.one_of(&[
         Small, Small, Nested, Divided, Divided, Layered, Places, TestSet, Facts, Terms, Long, Unsound, Damaged, Damaged,
@@ -60,7 +53,7 @@ fn narrow(random: &mut Random) -> Vec<u8> {
 }
 
 fn widened(bytes: Vec<u8>) -> Vec<u8> {
-    match read(&bytes) {
+    match read_as(&bytes, &[Version::One, Version::Two], usize::MAX) {
         Ok(book) => Book { version: Version::Two, ..book }.bytes(),
         Err(_) => bytes,
     }
@@ -70,14 +63,14 @@ fn widened(bytes: Vec<u8>) -> Vec<u8> {
 const COUNTS: [usize; 14] = [64, 65, 66, 128, 255, 256, 257, 258, 512, 1_022, 1_023, 1_024, 1_024, 1_025];
 
 /// A rule set of few predicates, readable, of version 2.
-fn few(random: &mut Random) -> Book {
+pub(crate) fn few(random: &mut Random) -> Book {
     use generate::Class::{Divided, Layered, Nested, Small};
     let class = random.one_of(&[Small, Small, Nested, Divided, Divided, Layered]);
     let book = read(&of_class(class, random)).expect("a sound class");
     Book { version: Version::Two, ..book }
 }
 
-fn many(random: &mut Random) -> Book {
+pub(crate) fn many(random: &mut Random) -> Book {
     let book = few(random);
     let count = random.one_of(&COUNTS);
     spread(random, book, count)
@@ -105,8 +98,8 @@ fn spread(random: &mut Random, mut book: Book, count: usize) -> Book {
     Book { arities, ..book }
 }
 
-/// As many predicates and rules as there may be, or nearly, or one too many; now and then a byte more than the longest.
-fn longest(random: &mut Random) -> Vec<u8> {
+/// As many predicates and rules as there may be, or nearly, or one too many.
+pub(crate) fn filled(random: &mut Random) -> Book {
     let (predicates, wide) = (random.one_of(&COUNTS), random.once_in(2));
     let mut book = long(random, Version::Two, predicates, wide);
     if random.once_in(3) {
@@ -115,7 +108,17 @@ fn longest(random: &mut Random) -> Vec<u8> {
         let largest = book.rules.iter().max_by_key(|rule| size(rule)).cloned().expect("a rule");
         book.rules.iter_mut().for_each(|rule| *rule = largest.clone());
     }
-    let mut bytes = book.bytes();
+    book
+}
+
+/// Such a rule set; now and then a byte more than the longest.
+fn longest(random: &mut Random) -> Vec<u8> {
+    let book = filled(random);
+    lengthened(random, book.bytes())
+}
+
+/// The same bytes, or now and then one more.
+pub(crate) fn lengthened(random: &mut Random, mut bytes: Vec<u8>) -> Vec<u8> {
     if random.once_in(5) {
         bytes.push(0);
         mend(&mut bytes);
@@ -123,13 +126,17 @@ fn longest(random: &mut Random) -> Vec<u8> {
     bytes
 }
 
-/// A rule set that ends behind the first byte of a predicate or of their count, whatever that byte says.
+/// A rule set that ends behind the first byte of a predicate or of their count.
 fn cut(random: &mut Random) -> Vec<u8> {
     let book = if random.once_in(2) { few(random) } else { many(random) };
-    let roles = roles(&book);
-    let is_first = |&k: &usize| matches!(roles[k], Role::PredicatesHigh | Role::PredicateHigh);
-    let firsts: Vec<usize> = (0..roles.len()).filter(is_first).collect();
-    let at = 4 + random.one_of(&firsts);
+    cut_behind(random, &book, &[Role::PredicatesHigh, Role::PredicateHigh])
+}
+
+/// The rule set ending behind a byte of one of these roles, whatever that byte says.
+pub(crate) fn cut_behind(random: &mut Random, book: &Book, last: &[Role]) -> Vec<u8> {
+    let roles = roles(book);
+    let ends: Vec<usize> = (0..roles.len()).filter(|&k| last.contains(&roles[k])).collect();
+    let at = 4 + random.one_of(&ends);
     let mut bytes = book.bytes();
     if random.once_in(2) {
         bytes[at] = random.one_of(&[3, 4, 5, 255]);

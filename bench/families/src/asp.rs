@@ -1,4 +1,4 @@
-//! The saturation of a rule set as an answer set program.
+//! The saturation of a rule set without rule constants as an answer set program.
 //!
 //! Where no trigger is blocked, the last stage of an accepted rule set is what its rules derive from the critical
 //! instance as Horn clauses, with Skolem terms for existential variables. There is a clause for each atom of each
@@ -8,7 +8,7 @@ use reference::rules::{members, Rule, RuleSet};
 use reference::{Atom, Book};
 
 fn literal(atom: &Atom, name: impl Fn(u8) -> String) -> String {
-    let arguments: Vec<String> = atom.variables().iter().map(|&v| name(v)).collect();
+    let arguments: Vec<String> = atom.arguments().iter().map(|&v| name(v)).collect();
     format!("p{}({})", atom.predicate, arguments.join(","))
 }
 
@@ -31,7 +31,7 @@ fn term(rule: &Rule, v: u8) -> String {
 fn clause(rule: &Rule, head: &Atom) -> String {
     let made = members(head.set()).any(|v| rule.marks[v as usize] > 0);
     let used = if made { head.set() | rule.frontier_set } else { head.set() };
-    let count = |v: u8| rule.body.iter().flat_map(Atom::variables).filter(|&&other| other == v).count();
+    let count = |v: u8| rule.body.iter().flat_map(Atom::arguments).filter(|&&other| other == v).count();
     let name = |v: u8| if used >> v & 1 == 0 && count(v) == 1 { "_".to_string() } else { variable(v) };
     let body: Vec<String> = rule.body.iter().map(|atom| literal(atom, name)).collect();
     format!("{} :- {}.\n", literal(head, |v| term(rule, v)), body.join(", "))
@@ -39,7 +39,7 @@ fn clause(rule: &Rule, head: &Atom) -> String {
 
 pub fn program(book: &Book) -> String {
     let critical = |(predicate, &arity): (usize, &u8)| {
-        let atom = Atom { predicate: predicate as u16, arity, variables: [0; 4] };
+        let atom = Atom { predicate: predicate as u16, arity, arguments: [0; 4] };
         literal(&atom, |_| "star".to_string()) + ".\n"
     };
     let rules = RuleSet::new(book).rules;

@@ -173,7 +173,7 @@ fn large_terms(tops: usize) -> Draft {
     // the frontier of the rules above is empty without a body variable in the head
     let q = 0;
     for rule in &mut draft.book.rules[3..] {
-        rule.disjuncts[0].push(reference::Atom { predicate: q, arity: 3, variables: [2, 0, 1, 0] });
+        rule.disjuncts[0].push(reference::Atom { predicate: q, arity: 3, arguments: [2, 0, 1, 0] });
     }
     draft.rule(&[(e, &LETTERS)], &[&[(g, &[0]), (g, &[1]), (g, &[2]), (g, &[3])]]);
     draft.rule(&[(q as usize, &[0, 1, 2])], &[&[(c, &[1, 0]), (c, &[2, 0])]]);
@@ -327,7 +327,7 @@ pub const UPGRADED: &str = ", upgraded";
 /// The same rule sets in version 2; those that do not convert as they were.
 fn upgraded(family: &Family) -> Family {
     let book = |book: &Vec<u8>| {
-        let mut out = vec![0; reference::book::LONGEST];
+        let mut out = vec![0; reference::convert::ROOM];
         let length = upgrade(book, &mut out);
         length.map_or_else(|_| book.clone(), |length| out[..length].to_vec())
     };

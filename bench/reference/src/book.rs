@@ -1,9 +1,16 @@
-//! Rule sets (document 01: books) and their bytes, in the versions of document 01 and of C-15.
+//! Rule sets (document 01: books) and their bytes, in the versions of document 01, of C-15 and of C-16.
 
 pub const MOST_RULES: usize = 64;
 pub const VARIABLES: usize = 8;
+/// The most rule constants (C-16: fixed names).
+pub const MOST_CONSTANTS: usize = 3;
+/// What can be an argument of an atom, here and in a form: the variables, and behind them the rule constants.
+pub const ARGUMENTS: usize = VARIABLES + MOST_CONSTANTS;
+pub const FIRST_CONSTANT: u8 = VARIABLES as u8;
+/// The byte of the first rule constant.
+const CONSTANT_BYTE: u8 = 128;
 /// Bytes of the longest rule set of any version.
-pub const LONGEST: usize = 9_096;
+pub const LONGEST: usize = Version::Three.longest();
 
 /// How a rule set's bytes are to be read.
 #[derive(Clone, Copy, PartialEq, Eq, Debug, Default)]
@@ -11,10 +18,12 @@ pub enum Version {
     #[default]
     One = 1,
     Two = 2,
+    /// With rule constants.
+    Three = 3,
 }
 
 impl Version {
-    pub const ALL: [Version; 2] = [Version::One, Version::Two];
+    pub const ALL: [Version; 3] = [Version::One, Version::Two, Version::Three];
 
     pub fn number(self) -> u8 {
         self as u8
@@ -27,7 +36,7 @@ impl Version {
     pub fn most_predicates(self) -> usize {
         match self {
             Version::One => 64,
-            Version::Two => 1_024,
+            Version::Two | Version::Three => 1_024,
         }
     }
 
@@ -35,7 +44,16 @@ impl Version {
     pub fn width(self) -> usize {
         match self {
             Version::One => 1,
-            Version::Two => 2,
+            Version::Two | Version::Three => 2,
+        }
+    }
+
+    /// The bytes of the longest rule set.
+    pub const fn longest(self) -> usize {
+        match self {
+            Version::One => 6_855,
+            Version::Two => 9_096,
+            Version::Three => 9_097,
         }
     }
 }
@@ -51,22 +69,35 @@ pub fn refuse<T>(number: u8, place: usize) -> Result<T, Refusal> {
     Err(Refusal { number, place })
 }
 
-/// A predicate and as many variables as its arity, the others 0.
+/// A predicate and as many arguments as its arity, the others 0: variables, and rule constants from 8 on.
 #[derive(Clone, Copy, PartialEq, Eq, Debug)]
 pub struct Atom {
     pub predicate: u16,
     pub arity: u8,
-    pub variables: [u8; 4],
+    pub arguments: [u8; 4],
 }
 
 impl Atom {
-    pub fn variables(&self) -> &[u8] {
-        &self.variables[..self.arity as usize]
+    pub fn arguments(&self) -> &[u8] {
+        &self.arguments[..self.arity as usize]
     }
 
     /// Its variables as a set of eight bits.
     pub fn set(&self) -> u8 {
-        self.variables().iter().fold(0, |set, v| set | 1 << v)
+        self.arguments().iter().fold(0, |set, &argument| set | bit(argument))
+    }
+}
+
+/// A variable's bit in a set. A rule constant has none.
+pub fn bit(argument: u8) -> u8 {
+    (1u16 << argument) as u8
+}
+
+/// The byte of an argument.
+pub fn byte_of(argument: u8) -> u8 {
+    match argument {
+        0..FIRST_CONSTANT => argument,
+        _ => argument - FIRST_CONSTANT + CONSTANT_BYTE,
     }
 }
 
@@ -104,6 +135,8 @@ impl Rule {
 pub struct Book {
     pub version: Version,
     pub arities: Vec<u8>,
+    /// How many rule constants there are: of version 3 alone.
+    pub constants: u8,
     pub rules: Vec<Rule>,
 }
 
@@ -112,6 +145,7 @@ struct Reader<'a> {
     bytes: &'a [u8],
     at: usize,
     version: Version,
+    constants: u8,
 }
 
 impl Reader<'_> {
@@ -137,17 +171,29 @@ impl Reader<'_> {
         self.wide(self.version.width(), least as u16, most as u16, number)
     }
 
+    /// A variable, or one of the rule constants.
+    fn argument(&mut self) -> Result<u8, Refusal> {
+        let at = self.at;
+        match self.byte(0, u8::MAX, 7)? {
+            variable @ 0..FIRST_CONSTANT => Ok(variable),
+            byte @ CONSTANT_BYTE.. if byte - CONSTANT_BYTE < self.constants => {
+                Ok(byte - CONSTANT_BYTE + FIRST_CONSTANT)
+            }
+            _ => refuse(7, at),
+        }
+    }
+
     fn atoms(&mut self, arities: &[u8]) -> Result<Vec<Atom>, Refusal> {
         let count = self.byte(1, 4, 6)?;
         let mut atoms = Vec::with_capacity(count as usize);
         for _ in 0..count {
             let predicate = self.predicate(0, arities.len() - 1, 7)?;
             let arity = arities[predicate as usize];
-            let mut variables = [0; 4];
-            for variable in variables.iter_mut().take(arity as usize) {
-                *variable = self.byte(0, 7, 7)?;
+            let mut arguments = [0; 4];
+            for argument in arguments.iter_mut().take(arity as usize) {
+                *argument = self.argument()?;
             }
-            atoms.push(Atom { predicate, arity, variables });
+            atoms.push(Atom { predicate, arity, arguments });
         }
         Ok(atoms)
     }
@@ -182,7 +228,7 @@ pub fn read_as(bytes: &[u8], versions: &[Version], most_predicates: usize) -> Re
     if stated as usize != bytes.len() - 4 {
         return refuse(2, 0);
     }
-    let mut reader = Reader { bytes, at: 4, version: Version::One };
+    let mut reader = Reader { bytes, at: 4, version: Version::One, constants: 0 };
     let number = reader.byte(0, u8::MAX, 3)?;
     reader.version = match Version::of(number as u16) {
         Some(version) if versions.contains(&version) => version,
@@ -193,6 +239,9 @@ pub fn read_as(bytes: &[u8], versions: &[Version], most_predicates: usize) -> Re
     for _ in 0..predicates {
         arities.push(reader.byte(1, 4, 4)?);
     }
+    if reader.version == Version::Three {
+        reader.constants = reader.byte(0, MOST_CONSTANTS as u8, 4)?;
+    }
     let count = reader.byte(0, MOST_RULES as u8, 5)?;
     let mut rules = Vec::with_capacity(count as usize);
     for _ in 0..count {
@@ -201,7 +250,7 @@ pub fn read_as(bytes: &[u8], versions: &[Version], most_predicates: usize) -> Re
     if reader.at < bytes.len() {
         return refuse(10, reader.at);
     }
-    Ok(Book { version: reader.version, arities, rules })
+    Ok(Book { version: reader.version, arities, constants: reader.constants, rules })
 }
 
 /// The last `width` of a number's two bytes.
@@ -213,7 +262,7 @@ fn write_atoms(atoms: &[Atom], width: usize, out: &mut Vec<u8>) {
     out.push(atoms.len() as u8);
     for atom in atoms {
         put(atom.predicate, width, out);
-        out.extend_from_slice(atom.variables());
+        out.extend(atom.arguments().iter().map(|&argument| byte_of(argument)));
     }
 }
 
@@ -224,6 +273,9 @@ impl Book {
         let mut out = vec![0, 0, 0, 0, self.version.number()];
         put(self.arities.len() as u16, width, &mut out);
         out.extend_from_slice(&self.arities);
+        if self.version == Version::Three {
+            out.push(self.constants);
+        }
         out.push(self.rules.len() as u8);
         for rule in &self.rules {
             write_atoms(&rule.body, width, &mut out);

@@ -1,21 +1,25 @@
 //! The form of a rule set (document 01: book form), as docs/DECISIONS.md lays it out: the counts of predicates and of
-//! rules, 64 rules of 106 numbers, 1,024 arities, the version, and a place that no version counts yet. A rule is the count
-//! of its disjuncts and five groups of atoms, the body first; a group is its count and four atoms of five numbers.
+//! rules, 64 rules of 106 numbers, 1,024 arities, the version, and the count of rule constants, which version 3 alone
+//! states. A rule is the count of its disjuncts and five groups of atoms, the body first; a group is its count and four
+//! atoms of five numbers, where a rule constant is 8 and its own number.
 
-use crate::book::{put, read, refuse, Atom, Refusal, Rule, Version, MOST_RULES};
+use crate::book::{
+    byte_of, put, read, refuse, Atom, Refusal, Rule, Version, FIRST_CONSTANT, MOST_CONSTANTS, MOST_RULES,
+};
 
 pub const LENGTH: usize = 7_812;
 pub const RULE: usize = 106;
 const GROUP: usize = 21;
 pub const ARITIES: usize = 2 + MOST_RULES * RULE;
 pub const VERSION: usize = ARITIES + 1_024;
+pub const CONSTANTS: usize = VERSION + 1;
 
 fn put_group(atoms: &[Atom], form: &mut [u16]) {
     form[0] = atoms.len() as u16;
     for (k, atom) in atoms.iter().enumerate() {
         form[1 + k * 5] = atom.predicate;
-        for (i, v) in atom.variables().iter().enumerate() {
-            form[2 + k * 5 + i] = *v as u16;
+        for (i, &argument) in atom.arguments().iter().enumerate() {
+            form[2 + k * 5 + i] = argument as u16;
         }
     }
 }
@@ -41,6 +45,7 @@ pub fn read_form(bytes: &[u8], form: &mut [u16]) -> Result<usize, Refusal> {
         form[ARITIES + p] = *arity as u16;
     }
     form[VERSION] = book.version.number() as u16;
+    form[CONSTANTS] = book.constants as u16;
     Ok(bytes.len())
 }
 
@@ -49,6 +54,7 @@ struct Writer<'a> {
     form: &'a [u16],
     out: Vec<u8>,
     version: Version,
+    constants: u8,
 }
 
 impl Writer<'_> {
@@ -75,17 +81,24 @@ impl Writer<'_> {
         Ok(n)
     }
 
+    /// It as the byte of a variable or of a rule constant.
+    fn argument(&mut self, at: usize) -> Result<u8, Refusal> {
+        let argument = self.within(at, 0, (FIRST_CONSTANT - 1 + self.constants) as u16, 7)? as u8;
+        self.out.push(byte_of(argument));
+        Ok(argument)
+    }
+
     fn group(&mut self, at: usize, arities: &[u8]) -> Result<Vec<Atom>, Refusal> {
         let count = self.number(at, 1, 4, 6)? as usize;
         let mut atoms = Vec::with_capacity(count);
         for k in 0..count {
             let predicate = self.predicate(at + 1 + k * 5, 0, arities.len() - 1, 7)?;
             let arity = arities[predicate as usize];
-            let mut variables = [0; 4];
-            for (i, variable) in variables.iter_mut().enumerate().take(arity as usize) {
-                *variable = self.number(at + 2 + k * 5 + i, 0, 7, 7)?;
+            let mut arguments = [0; 4];
+            for (i, argument) in arguments.iter_mut().enumerate().take(arity as usize) {
+                *argument = self.argument(at + 2 + k * 5 + i)?;
             }
-            atoms.push(Atom { predicate, arity, variables });
+            atoms.push(Atom { predicate, arity, arguments });
         }
         Ok(atoms)
     }
@@ -111,11 +124,14 @@ pub fn write_form(form: &[u16], out: &mut [u8]) -> Result<usize, Refusal> {
     let Some(version) = Version::of(form.get(VERSION).copied().unwrap_or(0)) else {
         return refuse(3, 4);
     };
-    let mut writer = Writer { form, out: vec![0, 0, 0, 0, version.number()], version };
+    let mut writer = Writer { form, out: vec![0, 0, 0, 0, version.number()], version, constants: 0 };
     let predicates = writer.predicate(0, 1, version.most_predicates(), 4)? as usize;
     let mut arities = Vec::with_capacity(predicates);
     for p in 0..predicates {
         arities.push(writer.number(ARITIES + p, 1, 4, 4)?);
+    }
+    if version == Version::Three {
+        writer.constants = writer.number(CONSTANTS, 0, MOST_CONSTANTS as u16, 4)?;
     }
     let rules = writer.number(1, 0, MOST_RULES as u16, 5)? as usize;
     for r in 0..rules {

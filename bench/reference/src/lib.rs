@@ -1,7 +1,7 @@
 //! Disjunctive model-faithful acyclicity of rule sets, a second time.
 //!
-//! A TEST INSTRUMENT: nothing here is proved. It is written from document 01, C-11, C-14 and C-15 alone, by value and with hash
-//! tables, to be compared with the proved library and to be the yardstick for its speed.
+//! A TEST INSTRUMENT: nothing here is proved. It is written from document 01, C-11 and C-14 to C-16 alone, by value and with
+//! hash tables, to be compared with the proved library and to be the yardstick for its speed.
 //!
 //! - `book`: rule sets, their bytes, refusals 2 to 10
 //! - `convert`: from one version to the other

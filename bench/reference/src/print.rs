@@ -1,12 +1,13 @@
 //! The text of an answer.
 
-use crate::book::{refuse, Refusal, LONGEST as LONGEST_BOOK};
+use crate::book::{refuse, Refusal, Version};
 use crate::stages::{check_at, Checked, Verdict, DEPTHS};
 use std::fmt::Write;
 use std::path::{Path, PathBuf};
 
-/// What the program hands over of its input, at most.
-pub const HANDED: usize = LONGEST_BOOK + 1;
+/// What the program hands over of its input, at most. C-16 makes it a byte more than the longest rule set of version 3;
+/// it follows when the library's program does, by whose vectors it is tried.
+pub const HANDED: usize = Version::Two.longest() + 1;
 /// The longest text: room for it is asked for whatever the answer.
 pub const LONGEST: usize = 76_863;
 

@@ -1,6 +1,6 @@
 //! Rules with what their variables say of them, Skolem functions, and the order in which a join takes a body's atoms.
 
-use crate::book::{set_of, Atom, Book, VARIABLES};
+use crate::book::{set_of, Atom, Book, ARGUMENTS, VARIABLES};
 
 #[derive(Clone, Copy, PartialEq, Eq, Debug)]
 pub enum Kind {
@@ -9,7 +9,8 @@ pub enum Kind {
     /// Two disjuncts or more, some of them without an existential variable (document 01: divided).
     Blockable,
     /// Each disjunct has an existential variable. No trigger of such a rule is blocked: a disjunct holds a Skolem term
-    /// over the whole frontier, whose constants are the trigger's own, and the test set holds no term above these.
+    /// over the whole frontier, whose constants are the trigger's own, and the test set holds no term above these. Above
+    /// rule constants it may hold one, and C-16 says that no such trigger is blocked either.
     Generating,
 }
 
@@ -32,8 +33,8 @@ pub struct Rule {
     pub frontier_set: u8,
     /// The frontier in rising variable number.
     pub frontier: Vec<u8>,
-    /// The Skolem function of each existential variable, 0 for the others.
-    pub marks: [u16; VARIABLES],
+    /// The Skolem function of each existential variable, 0 for other arguments.
+    pub marks: [u16; ARGUMENTS],
     /// One for each body atom.
     pub plans: Vec<Plan>,
 }
@@ -48,6 +49,8 @@ pub struct Origin {
 #[derive(Clone, Debug)]
 pub struct RuleSet {
     pub arities: Vec<u8>,
+    /// How many rule constants there are.
+    pub constants: u8,
     pub rules: Vec<Rule>,
     /// Of Skolem function `m` at `m - 1`.
     pub origins: Vec<Origin>,
@@ -89,7 +92,7 @@ impl RuleSet {
         let mut datalog = vec![Vec::new(); book.arities.len()];
         for (r, rule) in book.rules.iter().enumerate() {
             let body_set = set_of(&rule.body);
-            let mut marks = [0; VARIABLES];
+            let mut marks = [0; ARGUMENTS];
             let mut head_set = 0;
             let mut plain_disjuncts = 0;
             for (d, disjunct) in rule.disjuncts.iter().enumerate() {
@@ -127,6 +130,6 @@ impl RuleSet {
                 plans,
             });
         }
-        RuleSet { arities: book.arities.clone(), rules, origins, datalog }
+        RuleSet { arities: book.arities.clone(), constants: book.constants, rules, origins, datalog }
     }
 }

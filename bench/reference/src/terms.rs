@@ -1,9 +1,12 @@
-//! Terms in the order of their arrival: ⋆ is 0, a Skolem term is a function over earlier terms.
+//! Terms in the order of their arrival: ⋆ is 0, rule constants are 1 up, a Skolem term is a function over earlier terms.
 
 use crate::hash::Map;
 use std::hash::{Hash, Hasher};
 
-/// A Skolem function and its arguments, unused ones 0.
+/// The mark of the first rule constant, in place of a Skolem function.
+const CONSTANT_MARK: u16 = 60_001;
+
+/// A Skolem function and its arguments, one at least, unused ones 0. ⋆ and the rule constants have none.
 #[derive(Clone, Copy, PartialEq, Eq, Debug)]
 pub struct Term {
     pub mark: u16,
@@ -65,11 +68,14 @@ pub fn holds(marks: &Marks, mark: u16) -> bool {
 }
 
 impl Terms {
-    /// ⋆ alone, at a depth from 1 on.
-    pub fn critical(depth: usize) -> Terms {
+    /// ⋆ and so many rule constants, at a depth from 1 on.
+    pub fn critical(constants: u8, depth: usize) -> Terms {
         let marks = vec![Vec::new(); depth];
         let mut terms = Terms { all: Vec::new(), numbers: Map::default(), sizes: Vec::new(), marks };
         terms.insert(Term::STAR);
+        for constant in 0..constants as u16 {
+            terms.insert(Term { mark: CONSTANT_MARK + constant, ..Term::STAR });
+        }
         terms
     }
 
@@ -106,7 +112,7 @@ impl Terms {
             size = size.saturating_add(self.size(argument));
         }
         // its own function stands once more than below it
-        let mut met = term.mark > 0;
+        let mut met = term.arity > 0;
         for level in &mut self.marks {
             let mut marks = [0; 7];
             for &argument in term.arguments() {
