@@ -43,7 +43,7 @@ entry-well-formed {b} w {e} i = w .rules (e .rule) (entries-mem b i .rule)
 pub variable-range : {arities : List ℕ} {as' : List Atom} → WellFormedAtoms arities as' → {v : ℕ} → List·Memᴰ v (variablesOf as') → v ≤ 7
 variable-range {as' = as'} w {v} k = let (a, i, j) = variablesOf-mem as' k in w .each a i .range v j
 
--- no well-formed rule set states constants of its rules yet, of whatever version
+-- no well-formed rule set states rule constants yet, of whatever version
 pub older-unnamed : {b : RuleSet} → WellFormed b → ltb 2 (b .version) ≡ false → b .fixed ≡ 0
 older-unnamed w h = w .unnamed
 

@@ -14,7 +14,7 @@ use Rattle.laws.specs.Lists.{Distinct}
 use Rattle.laws.proofs.Lists.{mem-map, mem-collect}
 use Rattle.laws.proofs.Counting.{distinct-length, collect-length}
 
--- a term whose leaves are constants of a list, and constants of the rules
+-- a term whose leaves are constants of a list, and rule constants
 mutual
   pub data Built (cs : List Term) : Term → Type 0 where
     leaf : {c : ℕ} → List·Memᴰ (constant c) cs → Built cs (constant c)

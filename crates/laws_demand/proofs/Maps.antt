@@ -1,4 +1,4 @@
--- Maps of terms that commute with Skolem functions and leave the constants of the rules carry instances, head facts and outputs along. Assumes nothing.
+-- Maps of terms that commute with Skolem functions and leave the rule constants carry instances, head facts and outputs along. Assumes nothing.
 use mathlib.Core.Path.{_≡_, refl, sym, ap, _∙_}
 use mathlib.Core.Bool.{true, false}
 use mathlib.Core.Logic.{_⊎_, inl, inr}

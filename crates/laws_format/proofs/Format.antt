@@ -28,7 +28,7 @@ pub record ShapedRule (arities : List ℕ) (r : Rule) : Type 0 where
   pub body : ShapedAtoms arities (r .body)
   pub head : (d : List Atom) → List·Memᴰ d (r .head) → ShapedAtoms arities d
 
--- a rule set that states no constants of its rules, and whose atoms have as many variables as their predicates' arities say
+-- a rule set that states no rule constants, and whose atoms have as many variables as their predicates' arities say
 pub record Shaped (b : RuleSet) : Type 0 where
   pub unnamed : b .fixed ≡ 0
   pub rules : (r : Rule) → List·Memᴰ r (b .rules) → ShapedRule (b .arities) r

@@ -100,7 +100,7 @@ module _ {f : ℕ} {ts : Terms} (d : Disjunct) {σ : ℕ → Term} (h : Template
       go (inl (v, _, _, i)) = subst (Below (skolem f ts)) (sym i) (headTerm-below v)
       go (inr (v, _, _, i)) = below-fixed (skolem f ts) s (v - 8) i
 
--- nothing makes a constant of the rules
+-- nothing makes a rule constant
 pub made-not-fixed : {b : RuleSet} {t : Term} {g : Fact} {c : ℕ} → Made b t g → t ≡ fixed c → ⊥
 made-not-fixed (made-body d σ o h m) e = let z : _≡_ {A = ℕ} 0 1 = cc in omega arith
 made-not-fixed (made-head d σ o h m) e = let z : _≡_ {A = ℕ} 0 1 = cc in omega arith

@@ -45,7 +45,7 @@ pub rooted-not-fresh : {w : ℕ} {t s : Term} {v : ℕ} → Rooted w t → t ≡
 rooted-not-fresh (leaf p e) h = let z : _≡_ {A = ℕ} 0 1 = cc in omega arith
 rooted-not-fresh (node i t k) h = let z : _≡_ {A = ℕ} 0 1 = cc in omega arith
 
--- every Skolem function has an argument, and no constant of the rules stands in the term
+-- every Skolem function has an argument, and no rule constant stands in the term
 pub data Grounded : Term → Type 0 where
   grounded-star : Grounded star
   grounded-constant : {c : ℕ} → Grounded (constant c)

@@ -35,7 +35,7 @@ module _ {arities : List ℕ} (r : Rule) (wf : WellFormedRule arities r) (m u : 
   unfolding rootOf
   apart-rooted g {v} k = renamed-rooted (g (assign (universal r) m v) (assign-mem (universal r) m sub k)) (a .each v k) refl
 
-  -- each argument of the base lies below a term of the trigger; where it is a constant of the rules, below any
+  -- each argument of the base lies below a term of the trigger; where it is a rule constant, below any
   base-below : {b : RuleSet} {g : Fact} {y : ℕ} → List·Memᴰ y (universal r) → TestBase b r σ g → {s : Term} → List·Memᴰ s (g .arguments)
       → (w : ℕ) × List·Memᴰ w (universal r) × Below (σ w) s
   base-below {y = y} some (base-body m) {s} k = go (body-mem r σ m k)

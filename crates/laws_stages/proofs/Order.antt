@@ -161,7 +161,7 @@ terms-from b w n {t} m = go (extend-mem same (stage b n .terms) (termsOf (stage 
     go (inl i) = inl i
     go (inr i) = let (f, j, k) = termsOf-mem (stage b (suc n) .facts) i in named f k (facts-from b n j)
 
--- ⋆, a constant of the rules, or a Skolem term over one to eight such terms: no other constant, renamed or fresh constant anywhere
+-- ⋆, a rule constant, or a Skolem term over one to eight such terms: no other constant, renamed or fresh constant anywhere
 pub data Proper : Term → Type 0 where
   proper-star : Proper star
   proper-fixed : {c : ℕ} → Proper (fixed c)
@@ -182,7 +182,7 @@ terms-proper b w (suc n) {t} m =
     ⊎-elim (λ (i : List·Memᴰ t (stage b n .terms)). terms-proper b w n i)
     (λ (i : Invented (entries b) (stage b n .terms) t). invented-proper (λ u k. terms-proper b w n k) i) (terms-from b w n m)
 
--- a constant of the rules among them is declared
+-- a rule constant among them is declared
 pub fixed-declared : (b : RuleSet) → WellFormed b → (n : ℕ) {c : ℕ} → List·Memᴰ (fixed c) (stage b n .terms) → c < b .fixed
 fixed-declared b w zero {c} m = go (leaves-mem b (rw (stage-zero-terms b) at m))
   where

@@ -1,4 +1,4 @@
--- The leaves of stage 0, ⋆ and the constants of the rules, and the lists over them. Assumes nothing.
+-- The leaves of stage 0, ⋆ and the rule constants, and the lists over them. Assumes nothing.
 use mathlib.Core.Path.{_≡_, refl, sym, ap, subst}
 use mathlib.Core.Bool.{true, false}
 use mathlib.Core.Logic.{_⊎_, inl, inr, ⊎-elim}
@@ -17,7 +17,7 @@ use Rattle.laws.proofs.Bools.{case}
 use Rattle.laws.proofs.Lists.{mem-collect, collect-mem, mem-map, map-mem}
 use Rattle.laws.proofs.Distinct.{distinct-append, distinct-map}
 
--- the constants of the rules
+-- the rule constants
 
 pub fixedFrom-mem : (c k : ℕ) {t : Term} → List·Memᴰ t (fixedFrom c k) → (j : ℕ) × (c ≤ j) × (j < c + k) × (t ≡ fixed j)
 unfolding fixedFrom
@@ -60,7 +60,7 @@ pub leaves-length : (b : RuleSet) → length (leaves b) ≡ suc (b .fixed)
 unfolding leaves
 leaves-length b = ap suc (fixedFrom-length 0 (b .fixed))
 
--- t is ⋆ or a constant of the rules
+-- t is ⋆ or a rule constant
 abbrev pub LeafOf : RuleSet → Term → Type 0
 LeafOf b t = (t ≡ star) ⊎ ((c : ℕ) × (c < b .fixed) × (t ≡ fixed c))
 

@@ -1,5 +1,5 @@
 -- What the lines of the text show of the records of a stage: Skolem functions and predicates of at most four digits, term numbers of three, and
--- constants of the rules of five. Assumes nothing.
+-- rule constants of five. Assumes nothing.
 use mathlib.Core.Path.{_≡_, refl, sym, ap, _∙_, subst}
 use mathlib.Core.List.{List, [], _∷_, _++_, map, List·Memᴰ, List·Memᴰ·not-nil}
 use Prim.Native.Nat.{ℕ, suc, _+_, _-_, _^_, _≤_, _<_}

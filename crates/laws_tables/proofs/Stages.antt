@@ -40,7 +40,7 @@ number-before ts i l {a} m =
     let n = length-take-le i ts l in
     omega arith
 
--- terms whose own number is small: Skolem functions up to 2,048, and the first three constants of the rules
+-- terms whose own number is small: Skolem functions up to 2,048, and the first three rule constants
 abbrev Small : Term → Type 0
 Small star = Unit {0}
 Small (constant c) = Unit {0}

@@ -20,7 +20,7 @@ use Rattle.laws_tables.proofs.Rows.{row-collect}
 use Rattle.laws_tables.proofs.Numbering.{number-below, getD-number}
 
 -- A term that record i can hold, over terms numbered by ts. c says what a record of zeros is. No Skolem function is as high as the
--- mark of a constant of the rules.
+-- mark of a rule constant.
 pub data Recordable (c : ℕ → Term) (ts : List Term) (i : ℕ) : Term → Type 0 where
   plain : {t : Term} → termRow ts t ≡ replicate 10 0 → c i ≡ t → Recordable c ts i t
   known : {n : ℕ} → n < 3 → Recordable c ts i (fixed n)

@@ -41,7 +41,7 @@ pub textOf-ascii : (bytes : List ℕ) (c : Checked) → Ascii (textOf bytes c)
 unfolding textOf
 textOf-ascii bytes c = text-ascii (declared bytes) (c .verdict) (c .terms) (c .facts)
 
--- What a line shows of a term: its Skolem function, or the mark of a constant of the rules, and term numbers of at most three digits. The
+-- What a line shows of a term: its Skolem function, or the mark of a rule constant, and term numbers of at most three digits. The
 -- longest line has a Skolem function of four digits and eight term numbers; such a mark has five digits, and stands alone.
 pub record TermLine (ns : List ℕ) : Type 0 where
   pub function : ℕ

@@ -1,4 +1,4 @@
--- The [P] table, the table of misreadings, the order of records, both versions, other depths, constants of the rules and the forms of River,
+-- The [P] table, the table of misreadings, the order of records, both versions, other depths, rule constants and the forms of River,
 -- each computed from the definitions that the promises use. Assumes nothing.
 use mathlib.Core.Path.{_≡_, refl}
 use mathlib.Core.List.{List, [], _∷_, _++_, map}
@@ -53,7 +53,7 @@ pub at-depths : map (λ (c : AtDepth). checked (c .depth) (c .case .bytes) terms
 unfolding run deeper expected expectedTables
 at-depths = refl
 
--- Constants of the rules: verdict, stage, counts and both tables.
+-- Rule constants: verdict, stage, counts and both tables.
 pub with-constants :
     map (λ (c : Named). Tables.left 1 (c .book) (Stages.verdict 1 (c .book)) terms₀ facts₀) named ≡ map (λ (c : Named). expectedTables (c .verdict) (c .tables)) named
 unfolding run named expectedTables

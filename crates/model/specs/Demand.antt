@@ -32,7 +32,7 @@ unfoldable pub bound : ℕ → List Fact → ℕ
 bound n [] = 0
 bound n (f ∷ fs) = n ^ starsOf (f .arguments) + bound n fs
 
--- constants, and k constants of the rules
+-- constants, and k rule constants
 pub data Constants (k : ℕ) : List Term → Type 0 where
   none : Constants k []
   more : {c : ℕ} {ts : List Term} → Constants k ts → Constants k (constant c ∷ ts)

@@ -28,7 +28,7 @@ factWidth = 5
 abbrev pub termWidth : ℕ
 termWidth = 10
 
--- what stands for a Skolem function in the record of the first constant of the rules (document 02, C-16); no function has so high a number
+-- what stands for a Skolem function in the record of the first rule constant (document 02, C-16); no function has so high a number
 abbrev pub fixedMark : ℕ
 fixedMark = 60001
 

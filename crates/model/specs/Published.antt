@@ -99,7 +99,7 @@ module _ (b : RuleSet) where
   abbrev pub Blocked : Entry → List Term → Type 0
   Blocked e m = (u : List Term) × Apart (e .rule) m u × WeaklyBlocked e (assign (universal (e .rule)) u)
 
-  -- ⋆ and the constants of the rules (document 02, C-16; 004 has none)
+  -- ⋆ and the rule constants (document 02, C-16; 004 has none)
   pub data Leaf : Term → Type 0 where
     leaf-star : Leaf star
     leaf-fixed : {c : ℕ} → c < b .fixed → Leaf (fixed c)

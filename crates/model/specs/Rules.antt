@@ -8,7 +8,7 @@ use lib.ListN.{length}
 use Rattle.model.specs.Limits.{narrowLimit, predicateLimit}
 use Rattle.model.specs.Lists.{all, any, keep, collect, member}
 
--- a number below 8 is a variable, one from 8 on a constant of the rules (document 02, C-16)
+-- a number below 8 is a variable, one from 8 on a rule constant (document 02, C-16)
 pub record Atom : Type 0 where
   pub predicate : ℕ
   pub variables : List ℕ
@@ -33,7 +33,7 @@ wide version = ltb 1 version
 unfoldable pub mostPredicates : ℕ → ℕ
 mostPredicates version = elim (wide version) [ true ↦ predicateLimit | false ↦ narrowLimit ]
 
--- the numbers in atoms: variables, and constants of the rules
+-- the numbers in atoms: variables, and rule constants
 unfoldable pub variablesOf : List Atom → List ℕ
 variablesOf atoms = collect (λ (a : Atom). a .variables) atoms
 

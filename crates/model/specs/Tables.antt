@@ -16,7 +16,7 @@ use Rattle.model.specs.Stages.{Stage, stage, Verdict, accepted, cyclicAt
 unfoldable pub number : List Term → Term → ℕ
 number ts t = index same t ts
 
--- the Skolem function (0 for ⋆, a mark of its own for a constant of the rules), its arity, and eight argument numbers
+-- the Skolem function (0 for ⋆, a mark of its own for a rule constant), its arity, and eight argument numbers
 unfoldable pub termRow : List Term → Term → List ℕ
 termRow ts star = replicate termWidth 0
 termRow ts (constant c) = replicate termWidth 0

@@ -19,7 +19,7 @@ mutual
     star : Term
     -- a constant of an instance (document 01: a plain name), by number
     constant : ℕ → Term
-    -- a constant of the rules (document 02, C-16: a fixed name), by number
+    -- a rule constant (document 02, C-16: a fixed name), by number
     fixed : ℕ → Term
     -- in the blocking test: the constant of its own that an occurrence of a constant gets (004, Definition 45)
     apart : Position → Term
@@ -37,7 +37,7 @@ mutual
 unfoldable pub same : Term → Term → Bool
 same s t = elim (Term-discrete ℕ-discrete (Position-discrete ℕ-discrete) s t) [ yes e ↦ true | no e ↦ false ]
 
--- a constant of the rules
+-- a rule constant
 unfoldable pub isFixed : Term → Bool
 isFixed star = false
 isFixed (constant c) = false

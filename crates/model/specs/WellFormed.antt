@@ -33,7 +33,7 @@ pub record WellFormedRule (arities : List ℕ) (r : Rule) : Type 0 where
 pub record WellFormed (b : RuleSet) : Type 0 where
   pub first : 1 ≤ b .version
   pub last : b .version ≤ lastVersion
-  -- no bytes state constants of the rules yet (document 02, C-16)
+  -- no bytes state rule constants yet (document 02, C-16)
   pub unnamed : b .fixed ≡ 0
   pub some : 1 ≤ length (b .arities)
   pub few : length (b .arities) ≤ mostPredicates (b .version)
