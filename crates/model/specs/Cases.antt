@@ -229,4 +229,45 @@ named =
       verdict = cyclicAt 3 13 4;
       tables = rows ((0 ∷ []) ∷ (60001 ∷ []) ∷ (1 ∷ 1 ∷ []) ∷ (1 ∷ 1 ∷ 1 ∷ []) ∷ (1 ∷ 1 ∷ 2 ∷ []) ∷ []) ((0 ∷ []) ∷ (0 ∷ 1 ∷ []) ∷ (1 ∷ []) ∷ (1 ∷ 0 ∷ 1 ∷ []) ∷ (1 ∷ 1 ∷ []) ∷ (1 ∷ 1 ∷ 1 ∷ []) ∷ (2 ∷ []) ∷ (2 ∷ 1 ∷ []) ∷ (1 ∷ 0 ∷ 2 ∷ []) ∷ (1 ∷ 1 ∷ 3 ∷ []) ∷ (2 ∷ 2 ∷ []) ∷ (0 ∷ 2 ∷ []) ∷ (2 ∷ 3 ∷ []) ∷ []);
     } ∷
+    -- a constant in a head, and two in bodies; every trigger of the divided rule is blocked
+    record {
+      book =
+          record {
+            version = 3;
+            fixed = 2;
+            arities = 1 ∷ 3 ∷ 1 ∷ 1 ∷ [];
+            rules =
+                record {
+                  body = record { predicate = 0; variables = 0 ∷ [] } ∷ [];
+                  head = (record { predicate = 1; variables = 0 ∷ 9 ∷ 1 ∷ [] } ∷ []) ∷ [];
+                } ∷
+                record {
+                  body = record { predicate = 1; variables = 0 ∷ 8 ∷ 1 ∷ [] } ∷ [];
+                  head = (record { predicate = 2; variables = 1 ∷ [] } ∷ []) ∷ [];
+                } ∷
+                record {
+                  body = record { predicate = 1; variables = 0 ∷ 9 ∷ 1 ∷ [] } ∷ [];
+                  head = (record { predicate = 3; variables = 1 ∷ [] } ∷ []) ∷ (record { predicate = 0; variables = 1 ∷ [] } ∷ []) ∷ [];
+                } ∷
+                record {
+                  body = record { predicate = 1; variables = 0 ∷ 9 ∷ 1 ∷ [] } ∷ [];
+                  head = (record { predicate = 3; variables = 1 ∷ [] } ∷ []) ∷ [];
+                } ∷
+                [];
+          };
+      verdict = accepted 2 42 6;
+      tables = rows ((0 ∷ []) ∷ (60001 ∷ []) ∷ (60002 ∷ []) ∷ (1 ∷ 1 ∷ []) ∷ (1 ∷ 1 ∷ 1 ∷ []) ∷ (1 ∷ 1 ∷ 2 ∷ []) ∷ []) ((0 ∷ []) ∷ (0 ∷ 1 ∷ []) ∷ (0 ∷ 2 ∷ []) ∷ (1 ∷ []) ∷ (1 ∷ 0 ∷ 0 ∷ 1 ∷ []) ∷ (1 ∷ 0 ∷ 0 ∷ 2 ∷ []) ∷ (1 ∷ 0 ∷ 1 ∷ []) ∷ (1 ∷ 0 ∷ 1 ∷ 1 ∷ []) ∷ (1 ∷ 0 ∷ 1 ∷ 2 ∷ []) ∷ (1 ∷ 0 ∷ 2 ∷ []) ∷ (1 ∷ 0 ∷ 2 ∷ 1 ∷ []) ∷ (1 ∷ 0 ∷ 2 ∷ 2 ∷ []) ∷ (1 ∷ 1 ∷ []) ∷ (1 ∷ 1 ∷ 0 ∷ 1 ∷ []) ∷ (1 ∷ 1 ∷ 0 ∷ 2 ∷ []) ∷ (1 ∷ 1 ∷ 1 ∷ []) ∷ (1 ∷ 1 ∷ 1 ∷ 1 ∷ []) ∷ (1 ∷ 1 ∷ 1 ∷ 2 ∷ []) ∷ (1 ∷ 1 ∷ 2 ∷ []) ∷ (1 ∷ 1 ∷ 2 ∷ 1 ∷ []) ∷ (1 ∷ 1 ∷ 2 ∷ 2 ∷ []) ∷ (1 ∷ 2 ∷ []) ∷ (1 ∷ 2 ∷ 0 ∷ 1 ∷ []) ∷ (1 ∷ 2 ∷ 0 ∷ 2 ∷ []) ∷ (1 ∷ 2 ∷ 1 ∷ []) ∷ (1 ∷ 2 ∷ 1 ∷ 1 ∷ []) ∷ (1 ∷ 2 ∷ 1 ∷ 2 ∷ []) ∷ (1 ∷ 2 ∷ 2 ∷ []) ∷ (1 ∷ 2 ∷ 2 ∷ 1 ∷ []) ∷ (1 ∷ 2 ∷ 2 ∷ 2 ∷ []) ∷ (2 ∷ []) ∷ (2 ∷ 1 ∷ []) ∷ (2 ∷ 2 ∷ []) ∷ (3 ∷ []) ∷ (3 ∷ 1 ∷ []) ∷ (3 ∷ 2 ∷ []) ∷ (1 ∷ 0 ∷ 2 ∷ 3 ∷ []) ∷ (1 ∷ 1 ∷ 2 ∷ 4 ∷ []) ∷ (1 ∷ 2 ∷ 2 ∷ 5 ∷ []) ∷ (3 ∷ 3 ∷ []) ∷ (3 ∷ 4 ∷ []) ∷ (3 ∷ 5 ∷ []) ∷ []);
+    } ∷
+    -- 2,052 facts in stage 0
+    record {
+      book =
+          record {
+            version = 3;
+            fixed = 3;
+            arities = 4 ∷ 4 ∷ 4 ∷ 4 ∷ 4 ∷ 4 ∷ 4 ∷ 4 ∷ 1 ∷ [];
+            rules = [];
+          };
+      verdict = refused 13 0;
+      tables = rows [] [];
+    } ∷
     []
