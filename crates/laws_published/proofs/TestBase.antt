@@ -2,9 +2,9 @@
 use mathlib.Core.Path.{_≡_}
 use mathlib.Core.Logic.{_↔_, inl, inr, ⊎-elim}
 use mathlib.Core.List.{List, [], _++_, map, List·Memᴰ, List·Memᴰ·not-nil, List·Memᴰ·append-cases, Memᴰ·append-left, Memᴰ·append-right, Memᴰ·cast}
-use Prim.Native.Nat.{ℕ, _-_}
+use Prim.Native.Nat.{ℕ}
 use Rattle.model.specs.Lists.{collect, extend}
-use Rattle.model.specs.Term.{Term, star, fixed}
+use Rattle.model.specs.Term.{Term, star}
 use Rattle.model.specs.Rules.{Rule, RuleSet, entries, universal}
 use Rattle.model.specs.Triggers.{Fact, sameFact, assign, instantiate}
 use Rattle.model.specs.Blocking.{made, testBase}
@@ -15,15 +15,12 @@ use Rattle.laws.proofs.Rules.{universal-mem, universal-distinct}
 use Rattle.laws.proofs.Triggers.{BodyValue, assign-all, assign-cases, body-argument, body-mem}
 use Rattle.laws.proofs.Owners.{disjunctsOf}
 use Rattle.laws_published.proofs.Made.{made-is-published}
+use Rattle.laws_published.proofs.MadeBy.{made-not-fixed}
 
 -- a constant is not made
 made-star : (b : RuleSet) {g : Fact} → List·Memᴰ g (made star (disjunctsOf (entries b))) → ⊥
 unfolding made
 made-star b m = List·Memᴰ·not-nil m
-
-made-fixed : (b : RuleSet) (c : ℕ) {g : Fact} → List·Memᴰ g (made (fixed c) (disjunctsOf (entries b))) → ⊥
-unfolding made
-made-fixed b c m = List·Memᴰ·not-nil m
 
 module _ (b : RuleSet) (r : Rule) (u : List Term) (sub : Substitution r u) where
   abbrev σ : ℕ → Term
@@ -60,7 +57,7 @@ module _ (b : RuleSet) (r : Rule) (u : List Term) (sub : Substitution r u) where
           → List·Memᴰ g (extend sameFact [] (map (instantiate σ) (r .body) ++ collect makers u))
       go (inl (v, n, e)) =
           extend-right sameFact sameFact-decides [] (Memᴰ·append-right (map (instantiate σ) (r .body)) (base-makers t v e (made-is-published b t g .1 h)))
-      go (inr (v, _, _, e)) = absurd (made-fixed b (v - 8) (rw e at (made-is-published b t g .1 h)))
+      go (inr (v, _, _, e)) = absurd (made-not-fixed h e)
 
   pub testBase-is-published : (g : Fact) → List·Memᴰ g (testBase (entries b) r u) ↔ TestBase b r (assign (universal r) u) g
   testBase-is-published g = (testBase-sound, testBase-complete)
