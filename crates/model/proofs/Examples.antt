@@ -42,7 +42,7 @@ pub river-bound :
 unfolding ℕ-discrete Lists.all Lists.any Lists.keep Lists.extend Lists.index Lists.collect Lists.member Lists.padded Lists.row Term.same Term.isFixed Term.list Term.terms Term.size Term.functions Term.meeting Term.nesting Term.cyclic Term.stars Rules.wide Rules.mostPredicates Rules.variablesOf Rules.inBody Rules.universal Rules.frontier Rules.existential Rules.existentialFree Rules.datalog Rules.blockable Rules.repeated Rules.detached Rules.disjunctsFrom Rules.countSkolem Rules.entriesFrom Rules.entries Rules.owns Format.andThen Format.byte Format.number Format.many Format.variable Format.atom Format.atoms Format.sound Format.rule Format.stated Format.whole Format.ruleSet Format.read Triggers.sameAll Triggers.sameFact Triggers.present Triggers.termsOf Triggers.assign Triggers.valued Triggers.instantiate Triggers.assignments Triggers.holds Triggers.triggers Triggers.headTerm Triggers.headFacts Triggers.output Blocking.rename Blocking.renamed Blocking.template Blocking.origin Blocking.made Blocking.datalogOutput Blocking.saturate Blocking.testBase Blocking.testSet Blocking.blocked Stages.fixedFrom Stages.leaves Stages.tuples Stages.critical Stages.triggersIn Stages.contribution Stages.outputs Stages.grown Stages.stage Stages.cyclicTerms Stages.sizeOf Stages.tooLarge Stages.tooMany Stages.judge Stages.verdict Tables.number Tables.termRow Tables.factRow Tables.fronted Tables.recorded Tables.left Tables.isDepth Tables.checked Spelled.termAt Spelled.factAt Spelled.spelledFacts Demand.starsOf Demand.constants Demand.bound riverBytes river riverListed workedFillings
 river-bound = (refl, refl, refl, refl, refl)
 
--- Constants of the rules (document 02, C-16): the image of a fact keeps them, and n does not count them.
+-- Rule constants (document 02, C-16): the image of a fact keeps them, and n does not count them.
 pub named-constants :
     (starredFact (record { predicate = 0; arguments = constant 4 ∷ fixed 0 ∷ [] }) ≡ record { predicate = 0; arguments = star ∷ fixed 0 ∷ [] })
     × (constants (record { predicate = 0; arguments = constant 4 ∷ fixed 0 ∷ [] } ∷ record { predicate = 0; arguments = fixed 1 ∷ constant 4 ∷ [] } ∷ []) ≡ 1)
