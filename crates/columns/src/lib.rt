@@ -58,7 +58,7 @@ const SHORT_LIST: u8 = 1;
 const NO_STORE: u8 = 26;
 
 // What `unpack` answers: the counts of terms and of facts, or a refusal and its place.
-#[derive(Drop)]
+#[derive(Clone, Copy)]
 pub enum Unpacked {
     Counts(usize, usize),
     Refusal(u8, usize),

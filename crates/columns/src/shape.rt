@@ -1,5 +1,5 @@
 // The shape of a table: so many records of so many numbers.
-#[derive(Drop)]
+#[derive(Clone, Copy)]
 pub struct Shape {
     pub width: usize,
     pub count: usize,

@@ -37,7 +37,7 @@ fn copy(terms: &[u16], count: usize, i: usize, table: &mut [u16], n: usize) -> u
 }
 
 // The copies of terms: their numbers by variable, and how many rows there are.
-#[derive(Drop)]
+#[derive(Clone, Copy)]
 pub struct Renamed {
     pub numbers: [u16; 8],
     pub count: usize,

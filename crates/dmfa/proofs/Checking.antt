@@ -5,7 +5,7 @@ use mathlib.Core.List.{List, ◌++◌}
 use Prim.Native.Nat.{ℕ, suc, ◌-◌, ◌*◌, ◌≤◌}
 use native.Mathlib.Omega.{arith}
 use lib.Dec.{leb}
-use lib.ListN.{length, take, length-append, length_map, length-take}
+use lib.ListN.{length, take, length-append, length-map, length-take}
 use borrow.Author.Tests.{leb-true}
 use Rattle.model.specs.Rules.{RuleSet, entries}
 use Rattle.model.specs.WellFormed.{WellFormed}
@@ -49,8 +49,8 @@ module _ (d : ℕ) (b : RuleSet) (w : WellFormed b) where
       let i = ap (λ (x : ℕ). length (stage b x).terms) p in
       let j = ap (λ (x : ℕ). length (stage b x).facts) p in
       record {
-        terms = omega (arith, length_map (ts ++ us) (term_row ts), length-append ts us, length-take 1 (cyclic_terms d (entries b) (stage b (n - 1))));
-        facts = omega (arith, length_map (stage b (n - 1)).facts (fact_row ts));
+        terms = omega (arith, length-map (ts ++ us) (term_row ts), length-append ts us, length-take 1 (cyclic_terms d (entries b) (stage b (n - 1))));
+        facts = omega (arith, length-map (stage b (n - 1)).facts (fact_row ts));
       }
 
   few_shown : (v : Verdict) → verdict d b ≡ v → Few (shown d b v)

@@ -43,7 +43,7 @@ const FORM_LENGTH: usize = 7812;
 const DISJUNCTS: usize = 256;
 
 // The verdict, or that the room for terms was short.
-#[derive(Drop)]
+#[derive(Clone, Copy)]
 pub enum Checked {
     Answer(Verdict),
     Short,

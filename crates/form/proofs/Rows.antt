@@ -4,7 +4,7 @@ use mathlib.Core.List.{List, [], ◌∷◌, ◌++◌, map, map-append}
 use Prim.Native.Nat.{ℕ, ◌+◌, ◌-◌, ◌≤◌, ◌<◌}
 use native.Mathlib.Omega.{arith}
 use native.Mathlib.Numerals.{add-one}
-use lib.ListN.{length, get_or, set, take, replicate, length_map, get_or-append}
+use lib.ListN.{length, get_or, set, take, replicate, length-map, get_or-append}
 use lib.Seq.{take-suc, take_all, length-take-le}
 use Rattle.model.specs.Lists.{numbers_from, padded}
 use Rattle.model.specs.Rules.{Atom}
@@ -51,7 +51,7 @@ module _ {A B : Type 0} {g : A → B} {z : B} where
       → Filling g z ys n (k + 1) (set xs k x)
   filling_more {ys} {n} {k} {xs} f h y {x} e =
       let t = f.turn in
-      let l : length (map g (take k ys)) ≡ k = length_map (take k ys) g ∙ length-take-le k ys (omega arith) in
+      let l : length (map g (take k ys)) ≡ k = length-map (take k ys) g ∙ length-take-le k ys (omega arith) in
       record {
         turn = next_turn t h;
         front =
@@ -76,7 +76,7 @@ filling_atom {g = g} r {k = k} f h e x =
 -- what stands at a place of it
 pub filled_at_lem : {A B : Type 0} (g : A → B) (z : B) (ys : List A) (d : ℕ) (y : A) (w : B) → d < length ys → get_or (filled 4 z (map g ys)) d w ≡ g (get_or ys d y)
 unfolding filled
-filled_at_lem g z ys d y w h = get_or-append (map g ys) (replicate (4 - length (map g ys)) z) w d (omega (arith, length_map ys g)) ∙ get_d_map g ys d w y h
+filled_at_lem g z ys d y w h = get_or-append (map g ys) (replicate (4 - length (map g ys)) z) w d (omega (arith, length-map ys g)) ∙ get_d_map g ys d w y h
 
 -- a rule's head by disjuncts: at d stand the rows, the arities and the count of atoms of disjunct d
 

@@ -52,7 +52,7 @@ fn place_of(before: &[u16], n: usize, f: u16) -> usize
 }
 
 // A rule and one of its disjuncts.
-#[derive(Drop)]
+#[derive(Clone, Copy)]
 pub struct Owner {
     pub rule: usize,
     pub disjunct: usize,

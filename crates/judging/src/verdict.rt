@@ -1,6 +1,6 @@
 // The answer of the check, by value. specs/Verdict says which verdict of the model each case is.
 
-#[derive(Drop)]
+#[derive(Clone, Copy)]
 pub enum Verdict {
     // the stage, then the counts of its facts and terms
     Accepted(usize, usize, usize),

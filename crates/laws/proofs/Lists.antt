@@ -398,7 +398,7 @@ module _ {ℓ} {A : Type ℓ} where
     pub extend_distinct : {xs : List A} (ys : List A) → Distinct xs → Distinct (extend eq xs ys)
     unfolding extend
     extend_distinct [] d = d
-    extend_distinct {xs} (y ∷ ys) d = go (λ ws k. extend_distinct ys k) (case (any (eq y) xs))
+    extend_distinct {xs} (y ∷ ys) d = go (λ ws k. extend_distinct {xs = ws} ys k) (case (any (eq y) xs))
       where
         go : ((ws : List A) → Distinct ws → Distinct (extend eq ws ys)) → (any (eq y) xs ≡ true) ⊎ (any (eq y) xs ≡ false) → Distinct (extend eq xs (y ∷ ys))
         go below (inl e) = rw (extend_old eq xs y ys e) (below xs d)

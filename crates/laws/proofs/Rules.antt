@@ -8,7 +8,7 @@ use Prim.Native.Nat.{ℕ, suc, ◌+◌, ◌≤◌}
 use native.Mathlib.Omega.{arith}
 use lib.Dec.{eqb, ltb}
 use lib.ListN.{length}
-use borrow.Author.Tests.{ltb-true, lt-ltb, eqb-true, not_true}
+use borrow.Author.Tests.{ltb-true, lt-ltb, eqb-true, not-true}
 use Rattle.model.specs.Lists.{any, keep, member, all}
 use Rattle.model.specs.Rules.{Atom, Rule, RuleSet, Disjunct, Entry, names, variables_of, in_body, universal, frontier, existential, disjuncts_from, count_skolem, entries_from, entries, existential_free, datalog, blockable}
 use Rattle.laws.specs.Lists.{Distinct, none, one, rising}
@@ -111,7 +111,7 @@ unfolding existential
 existential_mem r d {v} m =
     let (k, e) = keep_mem (λ (v : ℕ). member v (variables_of d) && not (in_body r v)) names m in
     let (i, j) = and_true (member v (variables_of d)) (not (in_body r v)) e in
-    (member_mem v (variables_of d) i, not_true (in_body r v) j)
+    (member_mem v (variables_of d) i, not-true (in_body r v) j)
 
 pub existential_small : (r : Rule) (d : List Atom) {v : ℕ} → Memᴰ v (existential r d) → v ≤ 7
 unfolding existential

@@ -8,7 +8,7 @@ use Prim.Native.Nat.{ℕ, zero, suc, ◌≤◌}
 use native.Mathlib.Omega.{arith}
 use native.Mathlib.Decide.{ℕ_discrete}
 use lib.ListN.{length, get_or, drop, drop_of_length-le}
-use borrow.Author.Tests.{not_true}
+use borrow.Author.Tests.{not-true}
 use Rattle.model.specs.Lists.{all, extend}
 use Rattle.model.specs.Term.{Term, star}
 use Rattle.model.specs.Rules.{Atom, RuleSet, Disjunct, Entry, entries, datalog}
@@ -134,7 +134,7 @@ module _ {b : RuleSet} {a : Attempt} {s : State} {e : Entry} {d : Disjunct} (h :
   pub applies_unsatisfied : satisfied s.facts (given a) e.disjuncts ≡ false
   unfolding fits
   applies_unsatisfied =
-      not_true (satisfied s.facts (given a) e.disjuncts)
+      not-true (satisfied s.facts (given a) e.disjuncts)
       (and_true (all (λ (x : Atom). present s.facts (instantiate (given a) x)) e.rule.body) (not (satisfied s.facts (given a) e.disjuncts))
       applies_fits).1
 

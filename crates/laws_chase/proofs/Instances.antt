@@ -4,7 +4,7 @@ use mathlib.Core.Path.{◌≡◌, refl, sym, ap, ap₂, ◌∙◌}
 use mathlib.Core.List.{List, [], ◌∷◌, map, Memᴰ}
 use Prim.Native.Nat.{ℕ, ◌+◌, ◌*◌, ◌^◌, ◌≤◌}
 use native.Mathlib.Nat.{pow-zero, pow-suc, one-mul}
-use lib.ListN.{length, length-append, length_map}
+use lib.ListN.{length, length-append, length-map}
 use lib.Pow.{pow-add}
 use Rattle.model.specs.Lists.{collect}
 use Rattle.model.specs.Term.{Term, Terms, star, constant, fixed, apart, fresh, skolem, none, more, starred, starred_all, stars, stars_all}
@@ -63,12 +63,12 @@ mutual
   term_instances_length (fixed c) cs = sym (pow-zero (length cs))
   term_instances_length (apart p) cs = sym (pow-zero (length cs))
   term_instances_length (fresh t v) cs = sym (pow-zero (length cs))
-  term_instances_length (skolem f ts) cs = length_map (terms_instances ts cs) (skolem f) ∙ terms_instances_length ts cs
+  term_instances_length (skolem f ts) cs = length-map (terms_instances ts cs) (skolem f) ∙ terms_instances_length ts cs
 
   pub terms_instances_length : (ts : Terms) (cs : List Term) → length (terms_instances ts cs) ≡ length cs ^ stars_all ts
   terms_instances_length none cs = sym (pow-zero (length cs))
   terms_instances_length (more t ts) cs =
-      collect_length (λ (s : Term). map (more s) (terms_instances ts cs)) (length (terms_instances ts cs)) (λ s. length_map (terms_instances ts cs) (more s))
+      collect_length (λ (s : Term). map (more s) (terms_instances ts cs)) (length (terms_instances ts cs)) (λ s. length-map (terms_instances ts cs) (more s))
       (term_instances t cs)
       ∙ power_sum (length cs) (stars t) (stars_all ts) (length (term_instances t cs)) (length (terms_instances ts cs)) (term_instances_length t cs) (terms_instances_length ts cs)
 
@@ -77,13 +77,13 @@ unfolding argument_instances stars_of
 argument_instances_length [] cs = sym (pow-zero (length cs))
 argument_instances_length (t ∷ ts) cs =
     collect_length (λ (s : Term). map (λ (us : List Term). s ∷ us) (argument_instances ts cs)) (length (argument_instances ts cs))
-    (λ s. length_map (argument_instances ts cs) (λ (us : List Term). s ∷ us)) (term_instances t cs)
+    (λ s. length-map (argument_instances ts cs) (λ (us : List Term). s ∷ us)) (term_instances t cs)
     ∙ power_sum (length cs) (stars t) (stars_of ts) (length (term_instances t cs)) (length (argument_instances ts cs)) (term_instances_length t cs) (argument_instances_length ts cs)
 
 pub instances_length : (cs : List Term) (g : Fact) → length (instances cs g) ≡ length cs ^ stars_of g.arguments
 unfolding instances
 instances_length cs g =
-    length_map (argument_instances g.arguments cs) (λ (ts : List Term). record { predicate = g.predicate; arguments = ts })
+    length-map (argument_instances g.arguments cs) (λ (ts : List Term). record { predicate = g.predicate; arguments = ts })
     ∙ argument_instances_length g.arguments cs
 
 -- a term over the constants is among those of its starred image

@@ -8,7 +8,7 @@ use mathlib.Core.List.{List, [], ◌∷◌, map, Memᴰ, map-map}
 use Prim.Native.Nat.{ℕ}
 use native.Mathlib.Nat.{zero-add}
 use lib.Dec.{ltb}
-use lib.ListN.{length_map}
+use lib.ListN.{length-map}
 use Rattle.model.specs.Lists.{any, extend}
 use Rattle.model.specs.Term.{Term, star, fixed, starred, cyclic}
 use Rattle.model.specs.Rules.{Rule, RuleSet, Disjunct, Entry, entries, in_body, universal, datalog}
@@ -50,7 +50,7 @@ pub record Followed (b : RuleSet) (listed : List Fact) (fs : List Fact) : Type 0
 pub step_free : {b : RuleSet} → WellFormed b → {a : Attempt} {s : State} {e : Entry} {d : Disjunct} → Applies b a s e d → Explained b s.facts
     → blocked (entries b) e (map (given a) (universal e.rule)) ≡ false
 unfolding applicable
-step_free {b} w {a} {s} {e} h x = is_false (blocked (entries b) e (map (given a) (universal e.rule))) (λ k. stuck (blocked_sound b e (map (given a) (universal e.rule)) (length_map (universal e.rule) (given a)) k))
+step_free {b} w {a} {s} {e} h x = is_false (blocked (entries b) e (map (given a) (universal e.rule))) (λ k. stuck (blocked_sound b e (map (given a) (universal e.rule)) (length-map (universal e.rule) (given a)) k))
   where
     stuck : Blocked b e (map (given a) (universal e.rule)) → ⊥
     stuck k =
@@ -73,7 +73,7 @@ output_covered {b} w {listed} s {fs} c {e} m σ l free {d} i {f} k =
     let image : Loaded r listed τ = λ a n. Memᴰ.cast (sym (starred_fact_map (instantiate σ a) ∙ map_instantiate starred starred_commutes σ a)) (c (instantiate σ a) (l a n)) in
     let agree : Agree d.rule τ ρ =
     λ v n. sym (assign_agree g τ v (subst (λ (x : Rule). in_body x v ≡ true) ((entries_mem b m).disjuncts d i).0 n)) in
-    s.outputs e (map τ (universal r)) m (length_map (universal r) τ) (loaded_agree r listed {σ = τ} {τ = ρ} (λ v n. sym (assign_agree g τ v n)) image)
+    s.outputs e (map τ (universal r)) m (length-map (universal r) τ) (loaded_agree r listed {σ = τ} {τ = ρ} (λ v n. sym (assign_agree g τ v n)) image)
     (ap (blocked (entries b) e) (sym (map-map starred σ (universal r))) ∙ blocked_starred (entries b) e (map σ (universal r)) ∙ free)
     (starred_fact f)
     (mem_output ρ i (Memᴰ.cast (starred_fact_map f) (rw (head_facts_agree d τ ρ agree) at (mem_map_head_facts starred starred_commutes σ d k))))
@@ -92,7 +92,7 @@ instance_critical : (b : RuleSet) (f : Fact) → Over b f → Memᴰ (starred_fa
 unfolding starred_fact
 instance_critical b f o =
     Memᴰ.cast (fact_path (sym (zero-add f.predicate)) refl)
-    (mem_critical (leaves b) 0 b.arities f.predicate (map starred f.arguments) o.declared (length_map f.arguments starred ∙ o.arity)
+    (mem_critical (leaves b) 0 b.arities f.predicate (map starred f.arguments) o.declared (length-map f.arguments starred ∙ o.arity)
     (starred_constants b o.constant))
 
 initial_mem : (fs : List Fact) {f : Fact} → Memᴰ f (initial fs).facts → Memᴰ f fs

@@ -6,8 +6,8 @@ use mathlib.Core.List.Memᴰ
 use mathlib.Core.List.{List, [], ◌∷◌, map, Memᴰ}
 use Prim.Native.Nat.{ℕ, zero, suc, ◌≤◌}
 use native.Mathlib.Omega.{arith}
-use borrow.Author.Tests.{not_true}
-use lib.ListN.{get_or, drop, length_map}
+use borrow.Author.Tests.{not-true}
+use lib.ListN.{get_or, drop, length-map}
 use Rattle.model.specs.Lists.{all, extend}
 use Rattle.model.specs.Term.{Term, star, same}
 use Rattle.model.specs.Rules.{Rule, RuleSet, Disjunct, Entry, entries, universal, datalog, names}
@@ -28,7 +28,7 @@ loaded_assignment : (r : Rule) (fs : List Fact) (σ : ℕ → Term) → Loaded r
     → Assignment (universal r) (extend same [] (terms_of fs)) (map σ (universal r))
 loaded_assignment r fs σ l =
     record {
-      total = length_map (universal r) σ;
+      total = length-map (universal r) σ;
       terms = λ t m.
           let (v, k, e) = map_mem σ (universal r) m in
           extend_right same same_decides [] (Memᴰ.cast e (loaded_value r fs σ l (universal_mem r k)));
@@ -45,7 +45,7 @@ unfolding datalog_done all_satisfied
 datalog_done_all es fs h {e} m g = go (or_true (not (datalog e.rule)) (all_satisfied fs e) (all_mem (λ (e : Entry). not (datalog e.rule) || all_satisfied fs e) h m))
   where
     go : (not (datalog e.rule) ≡ true) ⊎ (all_satisfied fs e ≡ true) → all_satisfied fs e ≡ true
-    go (inl k) = not_both (datalog e.rule) g (not_true (datalog e.rule) k)
+    go (inl k) = not_both (datalog e.rule) g (not-true (datalog e.rule) k)
     go (inr k) = k
 
 all_datalog_done : (es : List Entry) (fs : List Fact) → ((e : Entry) → Memᴰ e es → datalog e.rule ≡ true → all_satisfied fs e ≡ true)

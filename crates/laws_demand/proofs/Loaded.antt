@@ -4,7 +4,7 @@ use mathlib.Core.Bool.{true, false, not}
 use mathlib.Core.List.Memᴰ
 use mathlib.Core.List.{List, map, Memᴰ}
 use Prim.Native.Nat.{ℕ}
-use borrow.Author.Tests.{not_true}
+use borrow.Author.Tests.{not-true}
 use Rattle.model.specs.Lists.{all}
 use Rattle.model.specs.Term.{Term}
 use Rattle.model.specs.Rules.{Atom, Rule, Disjunct, Entry, in_body, universal}
@@ -59,7 +59,7 @@ fits_loaded fs e σ h a m =
 pub fits_unsatisfied : (fs : List Fact) (e : Entry) (σ : ℕ → Term) → fits fs e σ ≡ true → satisfied fs σ e.disjuncts ≡ false
 unfolding fits
 fits_unsatisfied fs e σ h =
-    not_true (satisfied fs σ e.disjuncts) (and_true (all (λ (a : Atom). present fs (instantiate σ a)) e.rule.body) (not (satisfied fs σ e.disjuncts)) h).1
+    not-true (satisfied fs σ e.disjuncts) (and_true (all (λ (a : Atom). present fs (instantiate σ a)) e.rule.body) (not (satisfied fs σ e.disjuncts)) h).1
 
 pub loaded_fits : (fs : List Fact) (e : Entry) (σ : ℕ → Term) → Loaded e.rule fs σ → satisfied fs σ e.disjuncts ≡ false → fits fs e σ ≡ true
 unfolding fits

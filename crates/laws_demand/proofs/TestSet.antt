@@ -8,7 +8,7 @@ use mathlib.Core.List.Memᴰ
 use mathlib.Core.List.{List, [], ◌∷◌, map, Memᴰ}
 use Prim.Native.Nat.{ℕ, ◌<◌}
 use native.Mathlib.Omega.{arith}
-use lib.ListN.{length, get_or, length_map}
+use lib.ListN.{length, get_or, length-map}
 use Rattle.model.specs.Lists.{any, member}
 use Rattle.model.specs.Term.{Position, root, child, Term, Terms, star, constant, fixed, apart, fresh, skolem, none, more, list, terms, same}
 use Rattle.model.specs.Rules.{Rule, RuleSet, Disjunct, Entry, entries, in_body, universal, frontier}
@@ -81,7 +81,7 @@ module _ (ω : Term → ℕ → Term) (σ : ℕ → Term) where
       go : ((k : ℕ) → k < length (list ts) → back (get_or (list us) k star) ≡ get_or (list ts) k star) → skolem f (back_all us) ≡ skolem f ts
       go below =
           ap (skolem f)
-          (ext_terms (back_all us) ts (ap length (back_all_list us) ∙ length_map (list us) back ∙ l)
+          (ext_terms (back_all us) ts (ap length (back_all_list us) ∙ length-map (list us) back ∙ l)
           (λ k i. ap (λ (vs : List Term). get_or vs k star) (back_all_list us) ∙ get_d_map back (list us) k star star (omega arith) ∙ below k i))
 
   -- a substitution that is renamed apart

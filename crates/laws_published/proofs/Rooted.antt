@@ -8,7 +8,7 @@ use native.Mathlib.Omega.{arith}
 use lib.ListN.{length, get_or}
 use Rattle.model.specs.Lists.{collect}
 use Rattle.model.specs.Term.{Position, root, child, Term, Terms, star, constant, apart, fresh, skolem, list}
-use Rattle.model.specs.Published.{Renamed, renamed_constant, renamed_skolem}
+use Rattle.model.specs.Published.{Renamed, renamed_constant, renamed_fixed, renamed_skolem}
 use Rattle.laws.proofs.Lists.{mem_get_or, get_or_mem, collect_mem}
 use Rattle.laws_published.proofs.Subterms.{subterms, skolem_cases, Inside, inside_subterm}
 
@@ -57,6 +57,7 @@ pub data Grounded : Term → Type 0 where
 pub renamed_rooted : {t s : Term} {p : Position} {w : ℕ} → Grounded t → Renamed t p s → root_of p ≡ w → Rooted w s
 unfolding root_of
 renamed_rooted g (renamed_constant {p = p} n h) e = leaf p e
+renamed_rooted {w = w} g (renamed_fixed {c = c} {p = p}) e = elim g [ ]
 renamed_rooted {w = w} (grounded_skolem some h) (renamed_skolem {f} {ts} {us} {p} l k) e =
     go (λ i j. renamed_rooted (h (get_or (list ts) i star) (get_or_mem (list ts) i star j)) (k i j) e)
   where

@@ -6,7 +6,7 @@ use mathlib.Core.List.{List, [], ◌∷◌, Memᴰ}
 use Prim.Native.Nat.{ℕ, zero, suc, ◌+◌, ◌≤◌, ◌<◌}
 use native.Mathlib.Nat.{add-zero, add-suc, suc-add, zero-add}
 use native.Mathlib.Omega.{arith}
-use lib.ListN.{length, get_or, length_map}
+use lib.ListN.{length, get_or, length-map}
 use Rattle.model.specs.Term.{Term}
 use Rattle.model.specs.Rules.{Atom, RuleSet, Disjunct, Entry, entries, universal}
 use Rattle.model.specs.WellFormed.{WellFormedAtom, WellFormed}
@@ -62,7 +62,7 @@ critical_well_formed ts as' {f} m =
 
 pub instantiate_well_formed : {as' : List ℕ} {a : Atom} → WellFormedAtom as' a → (σ : ℕ → Term) → WellFormedFact as' (instantiate σ a)
 unfolding instantiate
-instantiate_well_formed {a = a} w σ = record { declared = w.declared; arity = length_map a.variables (valued σ) ∙ w.arity }
+instantiate_well_formed {a = a} w σ = record { declared = w.declared; arity = length-map a.variables (valued σ) ∙ w.arity }
 
 -- the atoms of an entry's disjuncts are a well-formed rule set's
 pub disjunct_well_formed : (b : RuleSet) → WellFormed b → {e : Entry} {d : Disjunct} {a : Atom} → Memᴰ e (entries b) → Memᴰ d e.disjuncts

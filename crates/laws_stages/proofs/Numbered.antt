@@ -1,11 +1,12 @@
 -- Laws of lists that are gone through with numbers: what is in them, their image, and when they rise. Assumes nothing.
-use mathlib.Core.Path.{◌≡◌, refl, sym, ap₂, ◌∙◌, subst}
+use mathlib.Core.Path.{◌≡◌, refl, sym, ap, ap₂, ◌∙◌, subst}
 use mathlib.Core.Logic.{◌⊎◌, inl, inr}
 use mathlib.Core.List.Memᴰ
 use mathlib.Core.List.{List, [], ◌∷◌, ◌++◌, map, Memᴰ, map-append}
 use Prim.Native.Nat.{ℕ, suc, ◌+◌, ◌<◌}
 use native.Mathlib.Nat.{add-zero, zero-add}
 use native.Mathlib.Omega.{arith}
+use lib.ListN.{get_or, drop}
 use Rattle.model.specs.Lists.{collect}
 use Rattle.model.specs.Order.{At, here, there, numbered, Less, at_first, later}
 use Rattle.laws.specs.Lists.{Rises, rises_none}
@@ -13,9 +14,16 @@ use Rattle.laws.proofs.Rises.{rises_append}
 
 -- lexicographic order is strict
 
+less_differ : (xs ys : List ℕ) → Less xs ys → xs ≡ ys → ⊥
+less_differ [] ys x'' e = elim x'' [ ]
+less_differ (x ∷ xs) [] x6 e = elim x6 [ ]
+less_differ (x ∷ xs) (y ∷ ys) (at_first h) e =
+    let first : x ≡ y = ap (λ (zs : List ℕ). get_or zs 0 0) e in
+    omega arith
+less_differ (x ∷ xs) (y ∷ ys) (later l) e = less_differ xs ys l (ap (drop 1) e)
+
 pub less_irreflexive : (xs : List ℕ) → Less xs xs → ⊥
-less_irreflexive (x ∷ xs) (at_first h) = omega arith
-less_irreflexive (x ∷ xs) (later l) = less_irreflexive xs l
+less_irreflexive xs l = less_differ xs xs l refl
 
 pub less_transitive : {xs ys zs : List ℕ} → Less xs ys → Less ys zs → Less xs zs
 less_transitive (at_first {x = x} h) (at_first {y = z} k) = let l : x < z = omega arith in at_first l

@@ -8,7 +8,7 @@ use mathlib.Core.List.{List, [], ◌∷◌, ◌++◌, map, Memᴰ}
 use Prim.Native.Nat.{ℕ, zero, suc, ◌+◌, ◌-◌, ◌≤◌, ◌<◌}
 use native.Mathlib.Omega.{arith}
 use lib.Dec.{eqb}
-use lib.ListN.{length, get_or, take, drop, length_map, length-take}
+use lib.ListN.{length, get_or, take, drop, length-map, length-take}
 use lib.Seq.{split_at}
 use borrow.Author.Tests.{not-false}
 use Rattle.model.specs.Lists.{any, index}
@@ -99,8 +99,8 @@ module _ (b : RuleSet) (w : WellFormed b) (ts m : List Term) (e : Entry) (i : Me
         own = j;
         exists = k;
         term = p;
-        some = rw (list_terms (map σ (frontier d.rule)), length_map (frontier d.rule) σ, q) (frontier_some wr);
-        few = rw (list_terms (map σ (frontier d.rule)), length_map (frontier d.rule) σ) (frontier_few d.rule);
+        some = rw (list_terms (map σ (frontier d.rule)), length-map (frontier d.rule) σ, q) (frontier_some wr);
+        few = rw (list_terms (map σ (frontier d.rule)), length-map (frontier d.rule) σ) (frontier_few d.rule);
         old = λ u n. frontier_terms u (subst (λ (r : Rule). Memᴰ u (map σ (frontier r))) q (rw (list_terms (map σ (frontier d.rule))) at n));
       }
 

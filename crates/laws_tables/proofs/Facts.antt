@@ -4,7 +4,7 @@ use mathlib.Core.List.{List, [], ◌∷◌, ◌++◌, map, Memᴰ}
 use Prim.Native.Nat.{ℕ, suc, ◌+◌, ◌-◌, ◌≤◌, ◌<◌}
 use native.Mathlib.Nat.{zero-add, add-zero, add-suc, suc-add}
 use native.Mathlib.Omega.{arith}
-use lib.ListN.{length, get_or, take, drop, replicate, length_map}
+use lib.ListN.{length, get_or, take, drop, replicate, length-map}
 use lib.Seq.{take_at}
 use Rattle.model.specs.Lists.{collect, padded, row}
 use Rattle.model.specs.Term.{Term}
@@ -27,7 +27,7 @@ pub length_fact_row : {arities : List ℕ} {ts : List Term} {f : Fact} → Recor
 unfolding fact_row
 length_fact_row {ts = ts} {f} h =
     let l = h.few in
-    length_padded 5 (f.predicate ∷ map (number ts) f.arguments) (rw (length_map f.arguments (number ts)) (omega arith))
+    length_padded 5 (f.predicate ∷ map (number ts) f.arguments) (rw (length-map f.arguments (number ts)) (omega arith))
 
 -- one record, read
 
@@ -44,7 +44,7 @@ fact_at_recorded : (arities : List ℕ) (c : ℕ → Term) (k i : ℕ) (ts : Lis
 unfolding fact_at fact_row
 fact_at_recorded arities c k i ts f terms facts e h r =
     ap (from_row arities (term_at c k terms)) e
-    ∙ from_row_padded arities (term_at c k terms) f.predicate (map (number ts) f.arguments) (length_map f.arguments (number ts) ∙ h.arity)
+    ∙ from_row_padded arities (term_at c k terms) f.predicate (map (number ts) f.arguments) (length-map f.arguments (number ts) ∙ h.arity)
     ∙ fact_path refl (map_read (term_at c k terms) (number ts) f.arguments (λ a m. r a (h.arguments a m)))
 
 -- facts i, i + 1 and so on

@@ -5,7 +5,7 @@ use mathlib.Core.List.Memᴰ
 use mathlib.Core.List.{List, [], ◌∷◌, ◌++◌, map, Memᴰ}
 use Prim.Native.Nat.{ℕ, suc, ◌+◌, ◌-◌, ◌^◌, ◌≤◌, ◌<◌}
 use native.Mathlib.Omega.{arith}
-use lib.ListN.{length, get_or, take, drop, replicate, length_map, length-append}
+use lib.ListN.{length, get_or, take, drop, replicate, length-map, length-append}
 use lib.Seq.{take_at}
 use Rattle.model.specs.Limits.{fixed_mark}
 use Rattle.model.specs.Lists.{padded, row}
@@ -50,10 +50,10 @@ shown_term_line {ts} (marked {f} {us = as'} p b q ms) l =
       arguments = map (number ts) (list as');
       whole =
           ap (λ (xs : List ℕ). f ∷ xs)
-          (take_at (map (number ts) (list as')) (replicate (10 - suc (suc (length (map (number ts) (list as'))))) 0) (length (list as')) (length_map (list as') (number ts)));
+          (take_at (map (number ts) (list as')) (replicate (10 - suc (suc (length (map (number ts) (list as'))))) 0) (length (list as')) (length-map (list as') (number ts)));
       rest = 3;
       function_small = omega arith;
-      short = rw (length_map (list as') (number ts)) (omega arith);
+      short = rw (length-map (list as') (number ts)) (omega arith);
       small = numbers_small ts l (list as') (λ a m. (ms a m).0);
     }
 
@@ -67,9 +67,9 @@ shown_fact_line {arities} {ts} {f} h l p =
       whole =
           ap (λ (xs : List ℕ). f.predicate ∷ xs)
           (take_at (map (number ts) f.arguments) (replicate (5 - suc (length (map (number ts) f.arguments))) 0) (get_or arities f.predicate 0)
-          (length_map f.arguments (number ts) ∙ h.arity));
+          (length-map f.arguments (number ts) ∙ h.arity));
       predicate_small = omega arith;
-      few = rw (length_map f.arguments (number ts)) h.few;
+      few = rw (length-map f.arguments (number ts)) h.few;
       small = numbers_small ts l f.arguments h.arguments;
     }
 

@@ -6,7 +6,7 @@ use Prim.Native.Nat.{ℕ, zero, suc, ◌+◌, ◌-◌, ◌≤◌, ◌<◌}
 use native.Mathlib.Nat.{zero-add, add-zero, add-suc, suc-add}
 use native.Mathlib.Omega.{arith}
 use lib.Dec.{eqb, ltb}
-use lib.ListN.{length, get_or, take, drop, replicate, length_map, length-append, get_or-append}
+use lib.ListN.{length, get_or, take, drop, replicate, length-map, length-append, get_or-append}
 use lib.Seq.{take_at}
 use borrow.Author.Tests.{ne_eqb, lt-ltb, le-ltb}
 use Rattle.model.specs.Limits.{fixed_mark}
@@ -36,7 +36,7 @@ unfolding term_row
 length_term_row (plain e k) = ap length e
 length_term_row (known {n} h) = length_padded 10 ((fixed_mark + n) ∷ []) (omega arith)
 length_term_row {ts = ts} (marked {f} {us} h b l k) =
-    length_padded 10 (f ∷ length (list us) ∷ map (number ts) (list us)) (rw (length_map (list us) (number ts)) (omega arith))
+    length_padded 10 (f ∷ length (list us) ∷ map (number ts) (list us)) (rw (length-map (list us) (number ts)) (omega arith))
 
 pub recordable_mem : (c : ℕ → Term) (ts us : List Term) → TermList c ts us → {t : Term} → Memᴰ t (ts ++ us)
     → Recordable c ts (number (ts ++ us) t) t
@@ -89,7 +89,7 @@ module _ (c : ℕ → Term) (ts us : List Term) (h : TermList c ts us) (table re
       term_at_row c k i table (padded 10 ((fixed_mark + n) ∷ [])) r ∙ from_row_fixed c (term_at c k table) i n
   term_at_recorded k i t r (marked {f} {us = as'} p b q ms) below =
       term_at_row c k i table (padded 10 (f ∷ length (list as') ∷ map (number ts) (list as'))) r
-      ∙ from_row_skolem c (term_at c k table) i f (length (list as')) (map (number ts) (list as')) p b (length_map (list as') (number ts))
+      ∙ from_row_skolem c (term_at c k table) i f (length (list as')) (map (number ts) (list as')) p b (length-map (list as') (number ts))
       ∙ ap (skolem f) (ap terms (map_read (term_at c k table) (number ts) (list as') args) ∙ terms_list as')
     where
       args : (a : Term) → Memᴰ a (list as') → term_at c k table (number ts a) ≡ a

@@ -4,7 +4,7 @@ use mathlib.Core.List.{List, [], ◌∷◌, Memᴰ}
 use Prim.Native.Nat.{ℕ, ◌*◌, ◌^◌, ◌≤◌}
 use native.Mathlib.Nat.{pow-zero, pow-succ'}
 use native.Mathlib.Omega.{arith}
-use lib.ListN.{length, length_map, length-append}
+use lib.ListN.{length, length-map, length-append}
 use Rattle.model.specs.Lists.{collect}
 use Rattle.laws.proofs.Lists.{mem_collect, mem_map}
 use Rattle.laws.proofs.Counting.{collect_length}
@@ -15,7 +15,7 @@ pub choices_length : (vs ns : List ℕ) → length (choices vs ns) ≡ length ns
 unfolding choices
 choices_length [] ns = sym (pow-zero (length ns))
 choices_length (v ∷ vs) ns =
-    collect_length _ (length (choices vs ns)) (λ n. length_map (choices vs ns) (λ (m : List ℕ). n ∷ m)) ns
+    collect_length _ (length (choices vs ns)) (λ n. length-map (choices vs ns) (λ (m : List ℕ). n ∷ m)) ns
     ∙ ap (λ (k : ℕ). length ns * k) (choices_length vs ns)
     ∙ sym (pow-succ' (length ns) (length vs))
 

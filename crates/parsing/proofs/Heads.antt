@@ -1,7 +1,7 @@
 -- A rule's variables as sets: which are existential, repeated in two disjuncts, or absent from one (document 01, refusals 8 and 9).
 -- Assumes nothing.
 use mathlib.Core.Path.{◌≡◌, refl, sym, ap, ◌∙◌}
-use mathlib.Core.Bool.{Bool, true, false, ◌&&◌, ◌||◌, not, or_false}
+use mathlib.Core.Bool.{Bool, true, false, ◌&&◌, ◌||◌, not, or-false}
 use mathlib.Core.Logic.{◌⊎◌, inl, inr}
 use mathlib.Core.List.{List, [], ◌∷◌, ◌++◌, append-nil}
 use Prim.Native.Nat.{ℕ, ◌-◌, ◌≤◌, ◌<◌}
@@ -9,7 +9,7 @@ use native.Mathlib.Decide.{dec_lt}
 use native.Mathlib.Omega.{arith}
 use lib.Dec.{eqb}
 use lib.Bits.{bit_or, bit_and, or_add_and, and_le_l, and_le_r}
-use borrow.Author.Tests.{eq-eqb, ne_eqb, not_true}
+use borrow.Author.Tests.{eq-eqb, ne_eqb, not-true}
 use Rattle.model.specs.Lists.{any, member, collect}
 use Rattle.model.specs.Rules.{Atom, Rule, variables_of, in_body, existential, repeated, detached}
 use Rattle.model.specs.Format.{Parsed, good, bad, sound}
@@ -26,7 +26,7 @@ use Rattle.form_variables.proofs.Sets.{has_or, has_and, has_zero, has_set_of, em
 
 pub any_snoc : {A : Type 0} (p : A → Bool) (xs : List A) (y : A) → any p (xs ++ (y ∷ [])) ≡ any p xs || p y
 unfolding any
-any_snoc p xs y = any_append p xs (y ∷ []) ∙ ap (λ (b : Bool). any p xs || b) (or_false (p y))
+any_snoc p xs y = any_append p xs (y ∷ []) ∙ ap (λ (b : Bool). any p xs || b) (or-false (p y))
 
 pub or_empty : (x y : ℕ) → eqb (bit_or x y) 0 ≡ eqb x 0 && eqb y 0
 or_empty x y = go (dec_lt 0 x) (dec_lt 0 y)
@@ -74,7 +74,7 @@ module _ (r : Rule) (body : ℕ) (b : body ≡ atoms_set r.body) where
     has_existential h v = both_ways _ _ there back
       where
         absent : v < 8 → has (255 - body) v ≡ true → in_body r v ≡ false
-        absent l e = sym (has_body v (omega arith)) ∙ not_true (has body v) (sym (has_complement 8 body v h l) ∙ e)
+        absent l e = sym (has_body v (omega arith)) ∙ not-true (has body v) (sym (has_complement 8 body v h l) ∙ e)
 
         split : Dec (v < 8) → has set v ≡ true → has (255 - body) v ≡ true → member v (existential r d) ≡ true
         split (yes l) e f = mem_member (mem_existential r d (omega arith) (member_mem v (variables_of d) (sym (has_disjunct v) ∙ e)) (absent l f))
@@ -155,7 +155,7 @@ module _ (r : Rule) where
 
   pub repeated_snoc : (ds : List (List Atom)) (e : List Atom) → repeated r (ds ++ (e ∷ [])) ≡ repeated r ds || any (elsewhere ds) (existential r e)
   unfolding repeated
-  repeated_snoc [] e = or_false (any (elsewhere []) (existential r e))
+  repeated_snoc [] e = or-false (any (elsewhere []) (existential r e))
   repeated_snoc (d ∷ ds) e =
       let symmetric : meets d e ≡ meets e d = both_ways (meets d e) (meets e d) (meets_back d e) (meets_back e d) in
       rw (elsewhere_snoc ds d e, repeated_snoc ds e, elsewhere_cons ds d e, symmetric)

@@ -28,7 +28,7 @@ fn fault(again: u8, apart: u8) -> u8
 
 // What is kept of a rule's disjuncts: the set of their existential variables, those of them that two disjuncts have, and 0 unless a disjunct
 // is detached.
-#[derive(Drop)]
+#[derive(Clone, Copy)]
 pub struct Disjuncts {
     pub seen: u8,
     pub again: u8,

@@ -16,14 +16,14 @@ const NARROW_LIMIT: u16 = 64;
 const PREDICATE_LIMIT: u16 = 1024;
 
 // What a parser answers: a value and where to go on, or a refusal and its place.
-#[derive(Drop)]
+#[derive(Clone, Copy)]
 pub enum Step {
     Good(u8, usize),
     Bad(u8, usize),
 }
 
 // The same with a number of one byte or two.
-#[derive(Drop)]
+#[derive(Clone, Copy)]
 pub enum WideStep {
     Good(u16, usize),
     Bad(u8, usize),

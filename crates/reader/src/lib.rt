@@ -26,7 +26,7 @@ const LAST_VERSION: u8 = 2;
 const PREDICATE_LIMIT: usize = 1024;
 
 // What `read` and `write` answer: how many bytes were read or written, or a refusal and its place.
-#[derive(Drop)]
+#[derive(Clone, Copy)]
 pub enum Transfer {
     Done(usize),
     Refusal(u8, usize),

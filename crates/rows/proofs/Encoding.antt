@@ -5,7 +5,7 @@ use mathlib.Core.List.{List, [], ◌∷◌, ◌++◌, map, Memᴰ}
 use Prim.Native.Nat.{ℕ, suc, ◌-◌, ◌≤◌, ◌<◌}
 use native.Mathlib.Omega.{arith}
 use lib.Dec.{eqb}
-use lib.ListN.{length, get_or, take, replicate, length_map}
+use lib.ListN.{length, get_or, take, replicate, length-map}
 use lib.Seq.{take-append_seam}
 use borrow.Author.Tests.{eqb-true, eq-eqb}
 use Rattle.model.specs.Lists.{padded}
@@ -84,7 +84,7 @@ skolem_rows_is ts f g us vs m n e =
     ≡ length (list vs) ∷ (map (number ts) (list vs) ++ replicate (10 - suc (suc (length (map (number ts) (list vs))))) 0) = cons_tail e in
     let long : length (list us) ≡ length (list vs) = cons_head rest in
     let len : length (map (number ts) (list us)) ≡ length (map (number ts) (list vs)) =
-    length_map (list us) (number ts) ∙ long ∙ sym (length_map (list vs) (number ts)) in
+    length-map (list us) (number ts) ∙ long ∙ sym (length-map (list vs) (number ts)) in
     let numbers : map (number ts) (list us) ≡ map (number ts) (list vs) =
     sym (take-append_seam (map (number ts) (list us)) (replicate (10 - suc (suc (length (map (number ts) (list us))))) 0))
     ∙ ap (take (length (map (number ts) (list us)))) (cons_tail rest)
@@ -145,7 +145,7 @@ row_fact arities ts f g h k e =
     let p : f.predicate ≡ g.predicate = row_predicate ts f g e in
     let len : length f.arguments ≡ length g.arguments = h.arity ∙ ap (λ (n : ℕ). get_or arities n 0) p ∙ sym k.arity in
     let long : suc (length (map (number ts) f.arguments)) ≡ suc (length (map (number ts) g.arguments)) =
-    ap suc (length_map f.arguments (number ts) ∙ len ∙ sym (length_map g.arguments (number ts))) in
+    ap suc (length-map f.arguments (number ts) ∙ len ∙ sym (length-map g.arguments (number ts))) in
     fact_path p
     (numbers_injective f.arguments g.arguments h.terms k.terms
     (cons_tail (padded_injective 5 (f.predicate ∷ map (number ts) f.arguments) (g.predicate ∷ map (number ts) g.arguments) long e)))

@@ -2,7 +2,7 @@
 
 // How many terms and facts of the tables are the stage's, how many of these facts stood one stage earlier, and the depth at which the stage is
 // left for the next.
-#[derive(Drop)]
+#[derive(Clone, Copy)]
 pub struct Counts {
     pub terms: usize,
     pub facts: usize,

@@ -2,7 +2,7 @@
 use stage_output::atoms::Made;
 
 // All that was to be made is made; or a blocking test was too large, refusal 12; or the table of terms had no room for an output.
-#[derive(Drop)]
+#[derive(Clone, Copy)]
 pub enum Ending {
     Done,
     TestTooLarge,
@@ -10,7 +10,7 @@ pub enum Ending {
 }
 
 // What is made, and how it ended.
-#[derive(Drop)]
+#[derive(Clone, Copy)]
 pub struct Progress {
     pub made: Made,
     pub ending: Ending,

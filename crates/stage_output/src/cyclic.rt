@@ -36,7 +36,7 @@ fn reach(row: [u16; 10]) -> usize
 }
 
 // What a Skolem row is told cyclic by: how many of a table's terms are those of the stage that is left, and the depth.
-#[derive(Drop)]
+#[derive(Clone, Copy)]
 pub struct Ground {
     pub terms: usize,
     pub depth: u8,
@@ -56,14 +56,14 @@ fn is_cyclic(terms: &[u16], ground: Ground, row: [u16; 10]) -> bool
 }
 
 // A cyclic row, if one was found.
-#[derive(Drop)]
+#[derive(Clone, Copy)]
 pub struct Cyclic {
     pub found: bool,
     pub row: [u16; 10],
 }
 
 // With the Skolem function that was tested last, 0 if none was.
-#[derive(Drop)]
+#[derive(Clone, Copy)]
 pub struct Tested {
     pub cyclic: Cyclic,
     pub function: u16,

@@ -20,7 +20,7 @@ use stage_output::cyclic::Ground;
 use variable_order::all_variables;
 
 // Whether it is known for which variables a trigger is blocked, and these.
-#[derive(Drop)]
+#[derive(Clone, Copy)]
 pub struct Reason {
     pub known: bool,
     pub variables: u8,

@@ -1,6 +1,6 @@
 -- Laws of marks: one more term raised, and a mark passed down from a term to its arguments. Assumes nothing.
 use mathlib.Core.Path.{◌≡◌, refl, sym, ap, ap₂, ◌∙◌}
-use mathlib.Core.Bool.{Bool, true, false, ◌&&◌, ◌||◌, or_assoc, or_false}
+use mathlib.Core.Bool.{Bool, true, false, ◌&&◌, ◌||◌, or_assoc, or-false}
 use mathlib.Core.Logic.{⊎_elim}
 use mathlib.Core.List.{List, [], ◌∷◌, Memᴰ}
 use Prim.Native.Nat.{ℕ, zero, suc, max, ◌+◌, ◌≤◌, ◌<◌}
@@ -161,7 +161,7 @@ module _ (t : List ℕ) (f d : ℕ) where
   pub nests_more : (n : ℕ) (as' : List ℕ) (x : ℕ) (marks : List ℕ) → ((a : ℕ) → Memᴰ a as' → a < n) → n ≤ length marks
       → nests_marked t f d n (raised as' x marks) ≡ nests_marked t f d n marks || any (λ (a : ℕ). passes d x (nesting_at t f a)) as'
   unfolding raised any
-  nests_more n [] x marks h l = sym (or_false (nests_marked t f d n marks))
+  nests_more n [] x marks h l = sym (or-false (nests_marked t f d n marks))
   nests_more n (a ∷ as') x marks h l =
       let b : a < n = h a (Memᴰ.head refl) in
       let y : ℕ = max (get_or marks a 0) x in
@@ -184,7 +184,7 @@ module _ (t : List ℕ) (f d : ℕ) where
   nests_unmarked n marks e =
       ap (λ (m : ℕ). nests_marked t f d n marks || passes d m (nesting_at t f n)) e
       ∙ ap (λ (b : Bool). nests_marked t f d n marks || b) (passes_unmarked d (nesting_at t f n))
-      ∙ or_false (nests_marked t f d n marks)
+      ∙ or-false (nests_marked t f d n marks)
 
   pub passed_unmarked : (n : ℕ) (marks : List ℕ) → get_or marks n 0 ≡ 0 → passed_down t f d (suc n) marks ≡ passed_down t f d n marks
   unfolding passed_down

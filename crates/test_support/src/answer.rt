@@ -7,7 +7,7 @@ use crate::say;
 use reader::Transfer;
 
 // 0 and how many bytes were read or written, or a refusal and its place.
-#[derive(Drop)]
+#[derive(Clone, Copy)]
 pub struct Answer {
     pub refusal: usize,
     pub place: usize,

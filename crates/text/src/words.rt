@@ -61,7 +61,9 @@ pub fn write_word(word: &[u8], out: &mut [u8], at: usize) -> usize
     requires { Room word.now at out.old }
     ensures { Writes word.now at out.old out.new result }
 {
-    at + bytes::copy(word, &mut out[at..])
+    let end = at + word.len();
+    out[at..end].copy_from_slice(word);
+    end
 }
 
 pub fn write_newline(out: &mut [u8], at: usize) -> usize

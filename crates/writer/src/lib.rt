@@ -335,7 +335,7 @@ pub fn write(form: &[u16], out: &mut [u8]) -> Transfer
                 return Transfer::Refusal(1, 0);
             }
             put_length(end, &mut local[..]);
-            bytes::copy(&local[..end], out);
+            out[..end].copy_from_slice(&local[..end]);
             Transfer::Done(end)
         }
         Step::Bad(refusal, place) => Transfer::Refusal(refusal, place),

@@ -5,7 +5,7 @@ use mathlib.Core.List.{List}
 use Prim.Native.Nat.{ℕ, ◌+◌, ◌*◌}
 use native.Mathlib.Omega.{arith}
 use borrow.Author.Rules.{rules}
-use borrow.Author.Tests.{not_true, not-false}
+use borrow.Author.Tests.{not-true, not-false}
 use lib.ListN.{drop}
 use Rattle.model.specs.Tables.{fronted}
 use Rattle.columns_model.specs.Differences.{numbers_of}
@@ -33,7 +33,7 @@ returns-3 c =
     let l = m.before in
     let a = l.before.before.before.before.args in
     unpacked_faulty a.store.now a.terms.now a.facts.now (enough a.terms.now a.facts.now l.if1.false m.if2.false)
-    (sym c.before.is-sound.ensures ∙ not_true _ c.if3.true)
+    (sym c.before.is-sound.ensures ∙ not-true _ c.if3.true)
 
 -- past the tests
 

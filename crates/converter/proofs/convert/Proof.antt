@@ -6,7 +6,7 @@ use Rattle.parsing.proofs.Numbers.{wide_good, wide_bad}
 use Rattle.converter_model.proofs.Converting.{parts_bad, convertible_whole, convertible_cut, converting_short, converting_bad}
 use Rattle.converter.proofs.Rewriting.{rewriting_converts}
 use borrow.Author.Rules.{rules}
-use borrow.Author.Tests.{not_true, not-false}
+use borrow.Author.Tests.{not-true, not-false}
 use Rattle.converter.proofs.convert.Statement.{statement}
 use Rattle.converter.proofs.convert.Tie as tie
 
@@ -18,7 +18,7 @@ returns : tie.Need-returns
 returns c = converting_short _ _ _ _ c.if1.true
 
 returns-2 : tie.Need-returns-2
-returns-2 c = let d = c.before.is_whole in converting_bad _ _ _ _ c.before.before.if1.false _ _ (convertible_cut _ _ (sym d.ensures ∙ not_true d.result c.if2.true))
+returns-2 c = let d = c.before.is_whole in converting_bad _ _ _ _ c.before.before.if1.false _ _ (convertible_cut _ _ (sym d.ensures ∙ not-true d.result c.if2.true))
 
 returns-3 : tie.Need-returns-3
 returns-3 c =

@@ -11,7 +11,7 @@ use Rattle.laws_tables.specs.Lent.{Fronts, Depth}
 use Rattle.laws_tables.proofs.Courses.{checked_short, checked_shallow}
 use Rattle.dmfa.proofs.Checking.{depth_told, no_depth_told, checked_refused, form_held, checked_left}
 use borrow.Author.Rules.{rules}
-use borrow.Author.Tests.{not_true, not-false}
+use borrow.Author.Tests.{not-true, not-false}
 use Rattle.dmfa.proofs.check.Statement.{statement}
 use Rattle.dmfa.proofs.check.Tie as tie
 
@@ -40,7 +40,7 @@ returns-3 c =
     let d = c.before.is-depth in
     let a = c.before.before.before.before.before.before.before.args in
     checked_shallow a.depth a.bytes.now a.terms.now a.facts.now (record { terms = c.before.before.before.if1.false; facts = c.before.before.if2.false })
-    (no_depth_told a.depth (sym d.ensures ∙ not_true d.result c.if3.true))
+    (no_depth_told a.depth (sym d.ensures ∙ not-true d.result c.if3.true))
 
 read-afresh-requires : tie.Need-read-afresh-requires
 unfolding zeros

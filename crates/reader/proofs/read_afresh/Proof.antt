@@ -8,7 +8,7 @@ use Rattle.parsing.specs.Step.{none}
 use Rattle.parsing.proofs.Parsing.{Parses, step_good, step_bad}
 use Rattle.reader.proofs.Reading.{read_cut, read_whole, afresh_bad, afresh_good}
 use borrow.Author.Rules.{rules}
-use borrow.Author.Tests.{not_true, not-false}
+use borrow.Author.Tests.{not-true, not-false}
 use Rattle.reader.proofs.read_afresh.Statement.{statement}
 use Rattle.reader.proofs.read_afresh.Tie as tie
 
@@ -20,7 +20,7 @@ parsed : (c : tie.After-end) → Parses none (rule_set c.before.before.before.be
 parsed c = step_good none _ _ _ (sym c.end.given.1 ∙ c.before.before.before.before.rule-set.ensures.answer)
 
 returns : tie.Need-returns
-returns c = afresh_bad _ _ _ (read_cut _ (sym c.before.is_whole.ensures ∙ not_true c.before.is_whole.result c.if1.true))
+returns c = afresh_bad _ _ _ (read_cut _ (sym c.before.is_whole.ensures ∙ not-true c.before.is_whole.result c.if1.true))
 
 returns-2 : tie.Need-returns-2
 returns-2 c =

@@ -4,7 +4,7 @@ use mathlib.Core.Path.{sym, ◌∙◌}
 use native.Mathlib.Omega.{arith}
 use Rattle.report.proofs.Printing.{terms_short, facts_short, out_short, no_depth, print_done}
 use borrow.Author.Rules.{rules}
-use borrow.Author.Tests.{not_true, not-false}
+use borrow.Author.Tests.{not-true, not-false}
 use Rattle.dmfa.proofs.Checking.{depth_told, no_depth_told}
 use Rattle.report.proofs.print.Statement.{statement}
 use Rattle.report.proofs.print.Tie as tie
@@ -29,7 +29,7 @@ returns-4 c =
     let d = c.before.is-depth in
     let s = c.before.before.before.before.before.before.before.before.before in
     no_depth s.args.depth s.args.bytes.now s.args.terms.now s.args.facts.now s.args.out.now c.before.before.before.before.if1.false c.before.before.before.if2.false c.before.before.if3.false
-    (no_depth_told s.args.depth (sym d.ensures ∙ not_true d.result c.if4.true))
+    (no_depth_told s.args.depth (sym d.ensures ∙ not-true d.result c.if4.true))
 
 write-answer-requires : tie.Need-write-answer-requires
 write-answer-requires c κs =

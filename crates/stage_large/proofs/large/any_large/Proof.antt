@@ -6,7 +6,7 @@ use mathlib.Core.List.{List}
 use Prim.Native.Nat.{ℕ}
 use native.Mathlib.Omega.{arith}
 use borrow.Author.Rules.{rules}
-use borrow.Author.Tests.{not_true, not-false}
+use borrow.Author.Tests.{not-true, not-false}
 use lib.ListN.{length, replicate}
 use Rattle.model.specs.Lists.{any}
 use Rattle.laws_triggers.specs.Match.{Body, Searchable}
@@ -106,7 +106,7 @@ returns : tie.Need-returns invariant-loop decreases-loop
 returns c =
     let f = c.before.before in
     let i = (turn f).loop.invariant in
-    (sym (seeking_none i.0 (searchable (made f)).some (comes f) (not_true f.first.result.found c.if1.true)) ∙ same-triggers (made f), i.1)
+    (sym (seeking_none i.0 (searchable (made f)).some (comes f) (not-true f.first.result.found c.if1.true)) ∙ same-triggers (made f), i.1)
 
 -- a trigger that was found
 module _ (c : tie.After-places-arg invariant-loop decreases-loop) where

@@ -6,7 +6,7 @@ use Prim.Native.Nat.{ℕ, ◌-◌, ◌<◌}
 use native.Mathlib.Omega.{arith}
 use borrow.Author.Rules.{rules}
 use borrow.Author.Count.{below_more}
-use borrow.Author.Tests.{not_true, not-false}
+use borrow.Author.Tests.{not-true, not-false}
 use lib.ListN.{length}
 use Rattle.model.specs.Lists.{all}
 use Rattle.laws_skipping.specs.Full.{none_full_of, functions_of}
@@ -39,7 +39,7 @@ returns c =
     let a = s.args in
     let f = c.before.none-full-at in
     let w : l.loop.d < length (rule_of a.form.now a.i).head = omega (arith, l.before.disjunct-count.ensures, c.before.before.loop-test.true) in
-    sym (rule_some a.form.now a.i s.requires.0.there (ground_in a.left a.terms.now) l.loop.d w (sym f.ensures ∙ not_true f.result c.if1.true))
+    sym (rule_some a.form.now a.i s.requires.0.there (ground_in a.left a.terms.now) l.loop.d w (sym f.ensures ∙ not-true f.result c.if1.true))
 
 loop-again : tie.Need-loop-preserved invariant-loop decreases-loop
 loop-again c =

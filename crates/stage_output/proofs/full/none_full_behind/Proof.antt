@@ -6,7 +6,7 @@ use Prim.Native.Nat.{ℕ, suc, ◌+◌, ◌-◌, ◌<◌}
 use native.Mathlib.Omega.{arith}
 use borrow.Author.Rules.{rules}
 use borrow.Author.Count.{below_more}
-use borrow.Author.Tests.{not_true, not-false}
+use borrow.Author.Tests.{not-true, not-false}
 use Rattle.laws_skipping.specs.Full.{none_full_of}
 use Rattle.stage_output.specs.Cyclic.{ground_in}
 use Rattle.stage_output.proofs.FullTerms.{all_numbers, not_numbers}
@@ -29,7 +29,7 @@ returns c =
     let r = c.before.none-full-of in
     let e : suc a.before + l.loop.k ≡ a.before + 1 + l.loop.k = omega arith in
     let p = none_full_of (ground_in a.left a.terms.now) in
-    sym (not_numbers p (suc a.before) a.count l.loop.k c.before.before.loop-test.true (ap p e ∙ sym r.ensures ∙ not_true r.result c.if1.true))
+    sym (not_numbers p (suc a.before) a.count l.loop.k c.before.before.loop-test.true (ap p e ∙ sym r.ensures ∙ not-true r.result c.if1.true))
 
 loop-again : tie.Need-loop-preserved invariant-loop decreases-loop
 loop-again c =
