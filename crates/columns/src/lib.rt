@@ -1,5 +1,7 @@
 // Tables laid down by columns (document 02, C-23): the store of an answer's records, and the records of a store. The contracts cite
 // specs/Contract, and through it `Store` of columns_model.
+#![tactic(auto)]
+
 mod laying;
 mod numbers;
 mod raising;

@@ -1,5 +1,7 @@
 // Converters of rule sets between versions 1 and 2 of their bytes (document 02, C-15). The contracts cite converter_model's Converter and
 // specs/Contract.
+#![tactic(auto)]
+
 ghost use Rattle.std.specs.Prelude.{◌≡◌};
 ghost use Rattle.parsing.specs.Step.{wide_step_of};
 ghost use Rattle.converter_model.specs.Converter as model;

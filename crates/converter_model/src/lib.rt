@@ -1,1 +1,2 @@
 // Definitions and theorems about rule sets in the bytes of another version (specs/, proofs/). No code.
+#![tactic(auto)]

@@ -1,5 +1,7 @@
 // The terms of a trigger copied into a table of their own, each occurrence of a constant apart. The contracts cite specs/Copying and
 // specs/Copies of crate rows.
+#![tactic(auto)]
+
 ghost use Rattle.std.specs.Prelude.{◌≡◌, map, true, ℕ, ◌<◌, get_or};
 ghost use Rattle.rows.specs.Copies.{copy_term, copies};
 ghost use Rattle.form_variables.specs.Sets.{has, elements};

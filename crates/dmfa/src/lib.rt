@@ -1,4 +1,6 @@
 // The check: the answer on a rule set's bytes, and the caller's tables. The contracts cite specs/Checking and specs/Promises.
+#![tactic(auto)]
+
 mod caller_tables;
 
 ghost use Rattle.std.specs.Prelude.{◌≡◌, ◌≤◌, length};

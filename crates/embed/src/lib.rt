@@ -1,5 +1,7 @@
 // The functions of the static library (bindings/c/rulfjen.h): numbers and lists cross, and nothing else. The contracts equate all that a
 // call returns and leaves behind with the definitions, by the numbers of specs/Numbers.
+#![tactic(auto)]
+
 ghost use Rattle.std.specs.Prelude.{◌≡◌, replicate};
 ghost use Rattle.model.specs.Form.{reading, writing};
 ghost use Rattle.model.specs.Limits.{terms_front, facts_front};

@@ -1,5 +1,7 @@
 // `pack` and `unpack` as a static library (bindings/c/rulfjen_columns.h): numbers and lists cross, and nothing else. The contracts equate all
 // that a call returns and leaves behind with the definitions, by the numbers of specs/Numbers.
+#![tactic(auto)]
+
 ghost use Rattle.std.specs.Prelude.{◌≡◌};
 ghost use Rattle.reader.specs.Transfer.{transfer_of};
 ghost use Rattle.columns.specs.Contract.{answer_of};

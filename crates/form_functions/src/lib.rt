@@ -1,5 +1,7 @@
 // The numbers of a rule set's Skolem functions: from 1 on, by rule, disjunct and variable. Contracts: specs/Functions, which model's
 // `entries` agrees with.
+#![tactic(auto)]
+
 ghost use Rattle.std.specs.Prelude.{◌≡◌, ◌++◌, ◌+◌, ◌≤◌, ◌<◌, length, get_or, drop};
 ghost use Rattle.form.specs.Places.{Held};
 ghost use Rattle.form_functions.specs.Functions.{places, functions_at, functions_before, numbering, Numbered, Owned};

@@ -1,1 +1,2 @@
 // laws of the definitions, in proofs/
+#![tactic(auto)]

@@ -1,1 +1,2 @@
 // laws of the blocking test over rows, in proofs/
+#![tactic(auto)]

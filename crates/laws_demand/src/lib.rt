@@ -1,1 +1,2 @@
 // demand 3 over the definitions, in proofs/
+#![tactic(auto)]

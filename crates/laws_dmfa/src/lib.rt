@@ -1,1 +1,2 @@
 // the stages over rows are those over trees, in proofs/
+#![tactic(auto)]

@@ -1,1 +1,2 @@
 // laws of reading and writing, in proofs/
+#![tactic(auto)]

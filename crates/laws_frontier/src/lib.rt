@@ -1,1 +1,2 @@
 // laws of triggers that their frontier alone blocks, in proofs/
+#![tactic(auto)]

@@ -1,1 +1,2 @@
 // the computed notions are the published ones, in proofs/
+#![tactic(auto)]

@@ -1,1 +1,2 @@
 // laws of stages and of the verdict, in proofs/
+#![tactic(auto)]

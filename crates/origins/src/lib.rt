@@ -1,5 +1,7 @@
 // The origins of terms, 01's made-by facts: the body and the disjunct that must have made a Skolem term, entered. The contracts cite specs/Origin
 // and specs/Origins of crate rows.
+#![tactic(auto)]
+
 ghost use Rattle.std.specs.Prelude.{◌≡◌, ◌++◌, ℕ, suc, ◌*◌, ◌≤◌, ◌<◌, length, get_or, replicate};
 ghost use Rattle.model.specs.Lists.{row};
 ghost use Rattle.rows.specs.Copies.{arguments_in, constant_row};

@@ -1,5 +1,7 @@
 // What the reader and the writer share: the answer of a parser of model's `Format`, the parsers of one byte and of a number of one byte or two,
 // and the faults of a rule that was read whole. The contracts cite specs/Step.
+#![tactic(auto)]
+
 pub mod faults;
 
 ghost use Rattle.std.specs.Prelude.{◌≡◌, true, ◌<◌};

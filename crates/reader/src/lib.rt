@@ -1,6 +1,8 @@
 // The reader of rule sets: from bytes to a form (document 01: book bytes, book form). The parsers of model's `Format`, one function each: each
 // answers the step of the definition's answer, and writes what it read into a row of zeros that its caller lends. The contracts cite
 // parsing's Step, specs/Parts and specs/Transfer.
+#![tactic(auto)]
+
 ghost use Rattle.std.specs.Prelude.{◌≡◌, List, ◌++◌, suc, ◌+◌, ◌*◌, ◌≤◌, ◌<◌, length, drop};
 ghost use Rattle.model.specs.Lists.{padded, collect};
 ghost use Rattle.model.specs.Rules.{Atom};

@@ -1,4 +1,6 @@
 // `print`: the check and the text of its answer, for bytes of a rule set. The contracts cite specs/Printing.
+#![tactic(auto)]
+
 ghost use Rattle.std.specs.Prelude.{◌≤◌, length};
 ghost use Rattle.model.specs.Text.{text_of};
 ghost use Rattle.judging.specs.Verdict.{meant};

@@ -1,4 +1,6 @@
 // The program: the front of standard input, and the text of the check's answer on it to standard output. The contract cites model's Text.
+#![tactic(auto)]
+
 ghost use Rattle.std.specs.Prelude.{◌≡◌, ◌≤◌, length, take};
 ghost use Rattle.model.specs.Limits.{input_limit};
 ghost use Rattle.model.specs.Text.{printed};

@@ -2,6 +2,8 @@
 // then the count.
 //
 // A group is a file with a case on each line, as `case` says. What `misstated` says is wrong, and each of its cases must differ.
+#![tactic(auto)]
+
 mod case;
 mod converting;
 mod hex;

@@ -4,6 +4,8 @@
 // A group is a file with a case on each line, as `reading` and `writing` say. What `misstated` says is wrong, and so are the first two
 // forms, and each of them must differ. The cases of document 02's vectors are in `requests` and `generated`: all but those whose book has
 // a 3 at place 4, which is no version before C-16.
+#![tactic(auto)]
+
 mod answer;
 mod forms;
 mod reading;

@@ -1,4 +1,6 @@
 // What the programs that try cases share: files, lines with columns, lists of marks, answers, the lines of the output and the count.
+#![tactic(auto)]
+
 pub mod answer;
 pub mod bytes;
 pub mod column;

@@ -1,4 +1,6 @@
 // Writes the texts of an accepted answer, a cyclic one and refusals, over small tables.
+#![tactic(auto)]
+
 ghost use Rattle.std.specs.Prelude.{◌≤◌, length};
 ghost use Rattle.model.specs.Text.{text};
 ghost use Rattle.judging.specs.Verdict.{meant};

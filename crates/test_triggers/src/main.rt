@@ -1,4 +1,6 @@
 // Lists the triggers of small bodies over small sets of facts: a line for each, with the term number of each of the eight variables.
+#![tactic(auto)]
+
 ghost use Rattle.test_triggers.specs.Cases.{Case};
 
 use libc::STDOUT_FILENO;

@@ -3,6 +3,8 @@
 // A group is a file with a case on each line, as `printing` says. What `misstated` says is wrong, and each of its cases must differ.
 // `version-2` has the cases of document 02's vectors whose book has a 2 at place 4, and books of the other groups in that version. Those whose
 // book has a 3 there are none before C-16.
+#![tactic(auto)]
+
 mod printing;
 mod tables;
 

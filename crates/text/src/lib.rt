@@ -1,4 +1,6 @@
 // The text of an answer, byte by byte. The contract cites the model's Text, and specs/Writing and specs/Legible.
+#![tactic(auto)]
+
 mod records;
 mod words;
 

@@ -1,5 +1,7 @@
 // The writer: the bytes of the rule set that a form holds, tested as the reader tests them, once over the form. Each function writes what a
 // parser of model's `Format` reads, and answers the parser's step (`Writes` of specs/Writes.antt).
+#![tactic(auto)]
+
 ghost use Rattle.std.specs.Prelude.{◌≡◌, [], ◌∷◌, suc, ◌+◌, ◌-◌, ◌*◌, ◌≤◌, ◌<◌, length, get_or};
 ghost use Rattle.model.specs.Lists.{numbers_from, collect};
 ghost use Rattle.model.specs.Rules.{wide, most_predicates};

@@ -1,0 +1,14 @@
+-- `form::atoms::arities_at` meets its contract. The loop's invariant: the arities of the first `k` atoms are there.
+-- Assumes nothing.
+use Prim.Native.Nat.{◌-◌}
+use lib.ListN.{length}
+use Rattle.model.specs.Rules.{Atom}
+use Rattle.form.specs.Places.{group_of}
+use Rattle.form.proofs.Rows.{Filling}
+use Rattle.form.proofs.atoms.arities_at.Given as goal
+
+abbrev pub invariant-loop-k : goal.invariant-loop-k
+invariant-loop-k l = Filling (λ (a : Atom). length a.variables) 0 (group_of l.form l.at) l.n l.k l.arities
+
+abbrev pub decreases-loop-k : goal.decreases-loop-k
+decreases-loop-k l = l.n - l.k

@@ -1,0 +1,21 @@
+-- `form::atoms::arity_at` meets its contract. Assumes nothing.
+use mathlib.Core.Path.{sym, ap, ◌∙◌}
+use Prim.Native.Nat.{ℕ}
+use native.Mathlib.Omega.{arith}
+use lib.ListN.{get_or}
+use Rattle.form.specs.Places.{arities_of}
+use Rattle.form.proofs.Places.{count_variables, atom_declared}
+use Rattle.form.proofs.atoms.arity_at.Goals as goal
+
+pub arity-requires : goal.arity-requires
+arity-requires c =
+    let s = c in
+    let f = s.args.form.now in
+    let w = c.wide.ensures in
+    (s.requires.held, omega (arith, atom_declared f s.args.at s.requires))
+
+pub returns : goal.returns
+returns c =
+    let s = c in
+    let f = s.args.form.now in
+    c.arity.ensures ∙ ap (λ (p : ℕ). get_or (arities_of f) p 0) c.wide.ensures ∙ sym (count_variables f s.args.at)

@@ -1,0 +1,20 @@
+-- `form::counts::disjunct_count` meets its contract. Assumes nothing.
+use mathlib.Core.Path.{sym, ap, ◌∙◌}
+use Prim.Native.Nat.{ℕ}
+use native.Mathlib.Omega.{arith}
+use lib.ListN.{get_or}
+use Rattle.form.proofs.Places.{count_disjuncts, rule_below}
+use Rattle.form.proofs.counts.disjunct_count.Goals as goal
+
+pub rule_place-at-requires : goal.rule_place-at-requires
+rule_place-at-requires c = omega (arith, rule_below c.requires)
+
+pub offset_bounds-form-at : goal.offset_bounds-form-at
+offset_bounds-form-at c = omega (arith, rule_below c.requires)
+
+pub bounds-form-at : goal.bounds-form-at
+bounds-form-at c = omega (arith, rule_below c.requires)
+
+pub returns : goal.returns
+returns c = let s = c in
+    c.wide.ensures ∙ ap (λ (p : ℕ). get_or s.args.form.now p 0) c.rule_place-at.ensures ∙ sym (count_disjuncts s.args.form.now s.args.i s.requires.1)

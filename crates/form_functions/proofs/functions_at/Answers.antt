@@ -1,0 +1,31 @@
+-- `form_functions::functions_at` meets its contract. Assumes nothing.
+use mathlib.Core.Path.{sym}
+use native.Mathlib.Omega.{arith}
+use Rattle.form_functions.specs.Functions.{functions_at}
+use Rattle.form_functions.proofs.Numbering.{no_function}
+use Rattle.form_functions.proofs.functions_at.Goals as goal
+
+pub disjunct_count-requires : goal.disjunct_count-requires
+disjunct_count-requires c =
+    let s = c in
+    let h = s.requires.1 in
+    (s.requires.0, omega arith)
+
+pub skolem_count-requires : goal.skolem_count-requires
+skolem_count-requires c =
+    let s = c in
+    let h = s.requires.1 in
+    let n = c.disjunct_count.ensures in
+    let t = c.if-d-disjunct_count.true in
+    (s.requires.0, omega arith, omega arith)
+
+pub returns-then-d-disjunct_count : goal.returns-then-d-disjunct_count
+unfolding functions_at
+returns-then-d-disjunct_count c = c.skolem_count.ensures
+
+pub returns-then-d-disjunct_count : goal.returns
+returns-then-d-disjunct_count c =
+    let s = c in
+    let n = c.disjunct_count.ensures in
+    let t = c.if-d-disjunct_count.false in
+    sym (no_function s.args.form.now s.args.j (omega arith))

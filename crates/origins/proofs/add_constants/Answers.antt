@@ -1,0 +1,70 @@
+-- `origins::add_constants` meets its contract. The loop's invariant: so many rows are written. Assumes nothing.
+use mathlib.Core.List.{append-nil, List, [], ◌∷◌, ◌++◌}
+use Rattle.facts.proofs.Rows.{room_same}
+use Rattle.origins.proofs.Template.{constants_room, constants_more}
+use mathlib.Core.Path.{◌≡◌, refl, sym, ap, ◌∙◌}
+use Prim.Native.Nat.{ℕ, ◌+◌, ◌-◌}
+use native.Mathlib.Numerals.{add-one}
+use native.Mathlib.Omega.{arith}
+use lib.ListN.{replicate}
+use Rattle.tables.specs.Rows.{rows}
+use Rattle.terms.proofs.Kept.{term_appended}
+use Rattle.rows.specs.Copies.{constant_row}
+use Rattle.origins.proofs.add_constants.Goals as goal
+
+pub loop-i-init : goal.loop-i-init
+loop-i-init c = let a = c.args in (omega arith, refl, sym (append-nil (rows 10 a.n a.table.now)), c.requires.kept)
+
+pub append_term-requires : goal.append_term-requires
+append_term-requires c =
+    let s = c in
+    let a = s.args in
+    let l = c in
+    let h = c.loop-i-test.true in
+    let q = l.loop-i.invariant.1 in
+    let (fits, few) = constants_room a.n a.table.now a.k l.loop-i.table (room_same l.loop-i.table q s.requires.room) l.loop-i.m l.loop-i.table l.loop-i.i l.loop-i.invariant.2 h in
+    (l.loop-i.invariant.3, fits, few, refl)
+
+pub overflow_add-m : goal.overflow_add-m
+overflow_add-m c =
+    let s = c in
+    let a = s.args in
+    let l = c in
+    let h = c.loop-i-test.true in
+    let q = l.loop-i.invariant.1 in
+    let b = constants_room a.n a.table.now a.k a.table.now s.requires.room l.loop-i.m l.loop-i.table l.loop-i.i l.loop-i.invariant.2 h in
+    record { fits = omega arith }
+
+pub overflow_add-i : goal.overflow_add-i
+overflow_add-i c = let h = c.loop-i-test.true in let f = c.ranges.k in record { fits = omega arith }
+
+pub loop-i-smaller : goal.loop-i-smaller
+loop-i-smaller c = let h = c.loop-i-test.true in omega arith
+
+pub loop-i-preserved : goal.loop-i-preserved
+loop-i-preserved c =
+    let s = c in
+    let a = s.args in
+    let l = c in
+    let h = c.loop-i-test.true in
+    let q = l.loop-i.invariant.1 in
+    let d = c.append_term in
+    let (kept, fits, few, ten) = append_term-requires c d.lifetimes in
+    let more = term_appended kept fits constant_row ten few d.ensures in (
+      omega arith,
+      d.auto.0 ∙ q,
+      rw (add-one l.loop-i.m) (more.0
+          ∙ ap (λ (ts : List (List ℕ)). ts ++ (constant_row ∷ [])) l.loop-i.invariant.2
+          ∙ constants_more l.loop-i.i (rows 10 a.n a.table.now)),
+      rw (add-one l.loop-i.m) more.1,
+    )
+
+pub shape_of-table : goal.shape_of-table
+shape_of-table c = c.loop-i.invariant.1
+
+pub returns : goal.returns
+returns c =
+    let l = c in
+    let a = c.args in
+    let e : l.loop-i.i ≡ a.k = omega arith in
+    record { rows = l.loop-i.invariant.2 ∙ ap (λ (i : ℕ). rows 10 a.n a.table.now ++ replicate i constant_row) e; kept = l.loop-i.invariant.3 }

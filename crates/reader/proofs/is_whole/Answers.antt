@@ -1,0 +1,14 @@
+-- `reader::is_whole` meets its contract: the definition is this test. Assumes nothing.
+use mathlib.Core.Path.{sym, ap, ◌∙◌}
+use Prim.Native.Nat.{ℕ, ◌+◌}
+use lib.Dec.{eqb}
+use lib.ListN.{length}
+use Rattle.reader.proofs.Reading.{whole_short, whole_long}
+use Rattle.reader.proofs.is_whole.Goals as goal
+
+pub returns-then-bytes-lt4 : goal.returns-then-bytes-lt4
+returns-then-bytes-lt4 c = sym (whole_short _ c.if-bytes-lt4.true)
+
+pub returns-then-bytes-lt4 : goal.returns
+returns-then-bytes-lt4 c =
+    ap (λ (n : ℕ). eqb (n + 4) (length c.args.bytes.now)) c.stated.ensures.0 ∙ sym (whole_long _ c.if-bytes-lt4.false)

@@ -1,0 +1,34 @@
+-- `reader::many_disjuncts` meets its contract: between turns the loop is as `Rows` says. Assumes nothing.
+use mathlib.Core.Path.{sym, ◌∙◌}
+use Prim.Native.Nat.{◌-◌}
+use native.Mathlib.Omega.{arith}
+use Rattle.model.specs.Format.{atoms}
+use Rattle.parsing.specs.Step.{atoms_set}
+use Rattle.parsing.proofs.Many.{rows_begun, rows_lent, rows_length, rows_more, rows_failed, rows_same, rows_finished}
+use Rattle.parsing.proofs.Heads.{keeps_none, keeps_more, fault_is}
+use Rattle.reader.proofs.many_disjuncts.Goals as goal
+
+pub loop-k-init : goal.loop-k-init
+loop-k-init c = rows_begun c.requires.1.1 (keeps_none _ _ c.none-heads.ensures)
+
+pub atoms-requires : goal.atoms-requires
+atoms-requires c = let a = c.requires in (a.0, rows_lent c.loop-k.invariant a.1.1 (omega arith))
+
+pub loop-k-preserved : goal.loop-k-preserved
+loop-k-preserved c =
+    let f = c.atoms in
+    rows_more c.loop-k.invariant c.requires.1.1 _ f.auto.1.1.1.1.0 atoms_set _ _ _ _ (omega arith) (omega arith) c.set-1.given.1 f.ensures
+    (keeps_more _ _ _ _ c.ranges.body.fits c.with-heads.ensures)
+
+pub shape_of-rows-in-Bad : goal.shape_of-rows-in-Bad
+shape_of-rows-in-Bad c = rows_length c.loop-k.invariant c.requires.1.1 c.atoms.new.1.1.1.1.0 c.atoms.auto.1.1.1.1.0
+
+pub returns-in-Bad : goal.returns-in-Bad
+returns-in-Bad c b e = rows_failed c.loop-k.invariant c.requires.1.1 atoms_set _ _ _ _ _ _ _ (omega arith) c.refusal.given.1 c.atoms.ensures
+
+pub shape_of-rows : goal.shape_of-rows
+shape_of-rows c = rows_same c.loop-k.invariant c.requires.1.1
+
+pub returns-in-Bad : goal.returns
+returns-in-Bad c b e =
+    rows_finished c.loop-k.invariant c.requires.1.1 _ _ (λ ds m. fault_is b ds _ _ _ (m b e) ∙ sym c.refusal.ensures) (omega arith)

@@ -1,0 +1,34 @@
+-- `reader::many_rules` meets its contract: between turns the loop is as `Rows` says. Assumes nothing.
+use mathlib.Core.Path.{refl}
+use Prim.Native.Nat.{◌-◌}
+use native.Mathlib.Omega.{arith}
+use Rattle.model.specs.Format.{rule}
+use Rattle.parsing.specs.Step.{none}
+use Rattle.parsing.proofs.Many.{rows_begun, rows_lent, rows_length, rows_more, rows_failed, rows_same, rows_finished}
+use Rattle.reader.proofs.many_rules.Goals as goal
+
+pub loop-k-init : goal.loop-k-init
+loop-k-init c = rows_begun c.requires.1.1 tt
+
+pub rule-requires : goal.rule-requires
+rule-requires c =
+    let a = c.requires in
+    (a.0, rows_lent c.loop-k.invariant a.1.1 (omega arith))
+
+pub loop-k-preserved : goal.loop-k-preserved
+loop-k-preserved c =
+    let f = c.rule in
+    rows_more c.loop-k.invariant c.requires.1.1 _ f.auto.1.1.1.1.0 none _ _ 0 _ (omega arith) (omega arith) c.next.given.1 f.ensures
+    (λ r e rs m. tt)
+
+pub shape_of-rows-in-Bad : goal.shape_of-rows-in-Bad
+shape_of-rows-in-Bad c = rows_length c.loop-k.invariant c.requires.1.1 c.rule.new.1.1.1.1.0 c.rule.auto.1.1.1.1.0
+
+pub returns-in-Bad : goal.returns-in-Bad
+returns-in-Bad c = rows_failed c.loop-k.invariant c.requires.1.1 none _ _ _ _ _ _ _ (omega arith) c.refusal.given.1 c.rule.ensures
+
+pub shape_of-rows : goal.shape_of-rows
+shape_of-rows c = rows_same c.loop-k.invariant c.requires.1.1
+
+pub returns-in-Bad : goal.returns
+returns-in-Bad c = rows_finished c.loop-k.invariant c.requires.1.1 _ _ (λ rs m. refl) (omega arith)

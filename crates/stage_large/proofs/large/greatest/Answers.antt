@@ -1,0 +1,60 @@
+-- `stage_large::large::greatest` meets its contract. The loop's invariant: the terms so far are measured, and the greatest size is known.
+-- Assumes nothing.
+use mathlib.Core.Path.{◌≡◌, refl, sym, ap, ◌∙◌}
+use mathlib.Core.Logic.{⊎_elim}
+use Prim.Native.Nat.{max, ◌-◌, ◌≤◌}
+use native.Mathlib.Omega.{arith}
+use lib.ListN.{length-set}
+use borrow.Author.Tests.{lt-ltb, le-ltb}
+use Rattle.stage_large.specs.Large.{greatest_size, most_size}
+use Rattle.stage_large.proofs.Bounds.{bounds_with}
+use Rattle.stage_large.proofs.large.greatest.Goals as goal
+
+pub returns-then-n-gt-TERM_LIMIT : goal.returns-then-n-gt-TERM_LIMIT
+unfolding most_size
+returns-then-n-gt-TERM_LIMIT c = let e = lt-ltb 512 c.args.n c.if-n-gt-TERM_LIMIT.true in sym (rw (e, most_size) refl)
+
+pub loop-i-init : goal.loop-i-init
+unfolding greatest_size
+loop-i-init c = (omega arith, omega arith, refl, ((λ k h. absurd (omega arith)), refl))
+
+pub slice_bounds-bound_of-end : goal.slice_bounds-bound_of-end
+slice_bounds-bound_of-end c = sym c.loop-i.invariant.2
+
+pub bound_of-bound-requires : goal.bound_of-bound-requires
+bound_of-bound-requires c =
+    let l = c in
+    let s = l in
+    let o = s.requires in
+    let i = l.loop-i.i in
+    (omega (arith, o.room), o.arity i (omega arith), (λ j h. let b = o i j (omega arith) h in omega (arith, l.loop-i.invariant.2)))
+
+pub overflow_cast-bounds : goal.overflow_cast-bounds
+overflow_cast-bounds c = omega (arith, c.bound_of-bound.ensures)
+
+pub loop-i-preserved : goal.loop-i-preserved
+loop-i-preserved c =
+    let d = c in
+    let l = d in
+    let s = l in
+    let e = d.bound_of-bound.ensures in
+    let most = c.if-most-bound.most in
+    let b : (most ≡ max l.loop-i.most d.bound_of-bound.result) × (most ≤ 65) =
+    ⊎_elim
+    (λ w. (omega (arith, w.0.true, w.1), omega (arith, w.1, e)))
+    (λ w. (omega (arith, w.0.left, w.1), omega (arith, w.1, l.loop-i.invariant.1)))
+    c.if-most-bound.branch in (
+      omega arith,
+      b.1,
+      length-set l.loop-i.bounds l.loop-i.i d.bound_of-bound.result ∙ l.loop-i.invariant.2,
+      bounds_with s.requires l.loop-i.bounds l.loop-i.i l.loop-i.most most d.bound_of-bound.result (omega arith) (omega (arith, l.loop-i.invariant.2)) e b.0 l.loop-i.invariant.3,
+    )
+
+pub returns-then-n-gt-TERM_LIMIT : goal.returns
+unfolding most_size
+returns-then-n-gt-TERM_LIMIT c =
+    let l = c in
+    let n = l.args.n in
+    let e = le-ltb 512 n l.if-n-gt-TERM_LIMIT.false in
+    let i : l.loop-i.i ≡ n = omega (arith, l.loop-i.invariant.0) in
+    l.loop-i.invariant.3.1 ∙ ap (greatest_size l.args.terms.now) i ∙ sym (rw (e, most_size) refl)

@@ -1,0 +1,67 @@
+-- `stage_output::cyclic::with_atom` meets its contract. The loop's invariant: the first `p` variables have been looked at, and the row of the function
+-- tested last makes no difference. Assumes nothing.
+use mathlib.Core.Path.{◌≡◌, sym, ap, ◌∙◌}
+use mathlib.Core.List.{List}
+use Prim.Native.Nat.{ℕ, ◌+◌, ◌-◌}
+use native.Mathlib.Omega.{arith}
+use lib.ListN.{get_or}
+use Rattle.model.specs.Lists.{numbers_from}
+use Rattle.rows.specs.Making.{first_cyclic}
+use Rattle.stage_output.specs.Cyclic.{ground_in, cyclic_of, row_with, rows_with}
+use Rattle.stage_output.proofs.CyclicRows.{first_none, first_append, rows_with_none, rows_with_more}
+use Rattle.stage_output.proofs.cyclic.with_atom.Goals as goal
+
+pub loop-p-init : goal.loop-p-init
+loop-p-init c =
+    let s = c in
+    let a = s.args in
+    let g = ground_in a.ground a.terms.now in (
+      omega arith,
+      record {
+        first = sym (ap (first_cyclic g (cyclic_of a.cyclic)) (rows_with_none a.t3 a.template a.t1) ∙ first_none g (cyclic_of a.cyclic));
+        unchanging = s.requires.1.unchanging;
+      },
+    )
+
+pub overflow_cast-function : goal.overflow_cast-function
+overflow_cast-function c = omega (arith, c.requires.0.variables c.loop-p.p c.loop-p-test.true)
+
+pub offset_bounds-functions-atom : goal.offset_bounds-functions-atom
+offset_bounds-functions-atom c = omega (arith, c.requires.0.variables c.loop-p.p c.loop-p-test.true)
+
+pub bounds-functions-atom : goal.bounds-functions-atom
+bounds-functions-atom c = omega (arith, c.requires.0.variables c.loop-p.p c.loop-p-test.true)
+
+pub with_variable-so_far-requires : goal.with_variable-so_far-requires
+with_variable-so_far-requires c =
+    let p = c.requires.1 in
+    record { standing = p.standing; arguments = p.arguments; unchanging = c.loop-p.invariant.1.unchanging }
+
+pub loop-p-preserved : goal.loop-p-preserved
+loop-p-preserved c =
+    let w = c.with_variable-so_far.ensures in
+    let l = c in
+    let a = l.args in
+    let g = ground_in a.ground a.terms.now in
+    let f = get_or a.t3 (get_or a.t1 (l.loop-p.p + 1) 0) 0 in
+    let seen = rows_with a.t3 a.template (numbers_from a.t1 1 l.loop-p.p) in (
+      omega arith,
+      record {
+        first = w.first
+            ∙ ap (λ (ls : List (List ℕ)). first_cyclic g ls (row_with f a.template)) l.loop-p.invariant.1.first
+            ∙ sym (first_append g (cyclic_of a.cyclic) seen (row_with f a.template))
+            ∙ ap (first_cyclic g (cyclic_of a.cyclic)) (sym (rows_with_more a.t3 a.template a.t1 l.loop-p.p));
+        unchanging = w.unchanging;
+      },
+    )
+
+pub returns : goal.returns
+returns c =
+    let l = c in
+    let a = l.args in
+    let e : l.loop-p.p ≡ a.arity = omega arith in
+    record {
+      first = l.loop-p.invariant.1.first
+          ∙ ap (λ (k : ℕ). first_cyclic (ground_in a.ground a.terms.now) (cyclic_of a.cyclic) (rows_with a.t3 a.template (numbers_from a.t1 1 k))) e;
+      unchanging = l.loop-p.invariant.1.unchanging;
+    }

@@ -1,0 +1,50 @@
+-- `stage_output::full::none_full` meets its contract. The loop's invariant: no term is full for a function of the first `d` disjuncts.
+-- Assumes nothing.
+use mathlib.Core.Path.{◌≡◌, sym, ◌∙◌}
+use mathlib.Core.Bool.{true}
+use Prim.Native.Nat.{ℕ, ◌-◌, ◌<◌}
+use native.Mathlib.Omega.{arith}
+use borrow.Author.Count.{below_more}
+use borrow.Author.Tests.{not-true, not-false}
+use lib.ListN.{length}
+use Rattle.model.specs.Lists.{all}
+use Rattle.laws_skipping.specs.Full.{none_full_of, functions_of}
+use Rattle.form.specs.Places.{rule_of}
+use Rattle.form_functions.specs.Functions.{numbered_of}
+use Rattle.stage_output.specs.Cyclic.{ground_in}
+use Rattle.stage_output.proofs.FullTerms.{rule_none, rule_some}
+use Rattle.stage_output.proofs.full.none_full.Goals as goal
+
+pub loop-d-init : goal.loop-d-init
+loop-d-init c = λ x l. absurd (omega arith)
+
+pub none_full_at-requires : goal.none_full_at-requires
+none_full_at-requires c =
+    let l = c in
+    let s = l in
+    (s.requires.0, omega (arith, l.disjunct_count-count.ensures, c.loop-d-test.true), s.requires.1)
+
+pub returns-then-not-none_full_at : goal.returns-then-not-none_full_at
+returns-then-not-none_full_at c =
+    let l = c in
+    let s = l in
+    let a = s.args in
+    let f = c.none_full_at in
+    let w : l.loop-d.d < length (rule_of a.form.now a.i).head = omega (arith, l.disjunct_count-count.ensures, c.loop-d-test.true) in
+    sym (rule_some a.form.now a.i s.requires.0.there (ground_in a.left a.terms.now) l.loop-d.d w (sym f.ensures ∙ not-true f.result c.if-not-none_full_at.true))
+
+pub loop-d-preserved : goal.loop-d-preserved
+loop-d-preserved c =
+    let l = c in
+    let a = l.args in
+    let f = c.none_full_at in
+    let g = ground_in a.left a.terms.now in
+    below_more (λ (x : ℕ). all (none_full_of g) (functions_of (numbered_of a.form.now a.i x)) ≡ true) l.loop-d.d l.loop-d.invariant (sym f.ensures ∙ not-false f.result c.if-not-none_full_at.false)
+
+pub returns-then-not-none_full_at : goal.returns
+returns-then-not-none_full_at c =
+    let l = c in
+    let s = l in
+    let a = s.args in
+    sym (rule_none a.form.now a.i s.requires.0.there (ground_in a.left a.terms.now)
+    (λ x h. l.loop-d.invariant x (omega (arith, l.disjunct_count-count.ensures, c.loop-d-test.false))))

@@ -1,0 +1,49 @@
+-- `stage_reasons::reason::blocked_outside` meets its contract, case by case. Assumes nothing.
+use mathlib.Core.Path.{◌≡◌, sym, ap, ◌∙◌, subst}
+use mathlib.Core.List.{List}
+use Prim.Native.Nat.{ℕ}
+use Rattle.model.specs.Rules.{entries}
+use Rattle.model.specs.Form.{decoded}
+use Rattle.rows.specs.Test.{Outcome, test}
+use Rattle.form_functions.specs.Functions.{entry_of}
+use Rattle.tables.specs.Rows.{rows}
+use Rattle.blocking.specs.Start.{chosen_terms, Testing}
+use Rattle.blocking.specs.Outcome.{outcome_of}
+use Rattle.blocking.specs.declared.Outcome.{Outcome as Said}
+use Rattle.stage_reasons.specs.Starred.{starred}
+use Rattle.stage_reasons.specs.Reason.{is_blocked}
+use Rattle.stage_reasons.proofs.reason.blocked_outside.Goals as goal
+
+pub test-outcome-requires : goal.test-outcome-requires
+test-outcome-requires c =
+    let s = c in
+    let a = s.args in
+    let p = s.requires in
+    (p.0, p.1, subst (Testing a.form.now a.i (rows 10 a.left.terms a.terms.now)) (sym c.starred-least.ensures) p.2)
+
+-- what the test of the starred trigger answers
+answer : {o : Outcome} {said told : Said} → outcome_of said ≡ o → said ≡ told → is_blocked (outcome_of told) ≡ is_blocked o
+answer e t = ap (λ (x : Said). is_blocked (outcome_of x)) (sym t) ∙ ap is_blocked e
+
+module _ (c : goal.After-test-outcome) where
+  abbrev s : goal.Start
+  s = c
+
+  asked : outcome_of c.test-outcome.result ≡ test (entries (decoded s.args.form.now)) (entry_of s.args.form.now s.args.i) (rows 10 s.args.left.terms s.args.terms.now)
+      (chosen_terms s.args.form.now s.args.i (starred s.args.set s.args.trigger))
+  asked =
+      c.test-outcome.ensures
+      ∙ ap (λ (xs : List ℕ).
+      test (entries (decoded s.args.form.now)) (entry_of s.args.form.now s.args.i) (rows 10 s.args.left.terms s.args.terms.now) (chosen_terms s.args.form.now s.args.i xs)) c.starred-least.ensures
+
+pub returns-in-Over : goal.returns-in-Over
+unfolding is_blocked
+returns-in-Over c = answer (asked c) c.enum_told-1.given.1
+
+pub returns-in-Blocked : goal.returns-in-Blocked
+unfolding is_blocked
+returns-in-Blocked c = answer (asked c) c.enum_told-in-Blocked-1.given.1
+
+pub returns-in-Free : goal.returns-in-Free
+unfolding is_blocked
+returns-in-Free c = answer (asked c) c.enum_told-in-Free-1.given.1

@@ -1,0 +1,45 @@
+-- `text::records::write_term_lines` meets its contract. The loop's invariant: the first `i` lines are written. Assumes nothing.
+use mathlib.Core.Path.{◌≡◌, refl, ◌∙◌}
+use mathlib.Core.List.{◌∷◌}
+use Prim.Native.Nat.{ℕ, ◌-◌}
+use native.Mathlib.Omega.{arith}
+use Rattle.model.specs.Text.{line, term_word, term_numbers, lines}
+use Rattle.text.proofs.Writing.{writes_none, writes_append}
+use Rattle.text.proofs.Lines.{lines_more, lines_within}
+use Rattle.text.proofs.Rows.{fewer_terms}
+use Rattle.text.proofs.records.write_term_lines.Goals as goal
+
+pub loop-i-init : goal.loop-i-init
+unfolding lines
+loop-i-init c =
+    let a = c.args in
+    (omega arith, writes_none a.at a.out.now, refl)
+
+pub write_term_line-o-requires : goal.write_term_line-o-requires
+write_term_line-o-requires c =
+    let l = c in
+    let s = l in
+    let e = l.loop-i.invariant.1.next in
+    let k = l.loop-i.invariant.2 in
+    let w = lines_within (λ (i : ℕ). line term_word (i ∷ term_numbers s.args.terms.now i)) s.args.count l.loop-i.i c.loop-i-test.true in
+    let p = s.requires.1 in
+    (fewer_terms s.requires.0 _ (omega arith), omega arith)
+
+pub loop-i-preserved : goal.loop-i-preserved
+loop-i-preserved c =
+    let l = c in
+    let s = l in (
+      omega arith,
+      rw (lines_more (λ (i : ℕ). line term_word (i ∷ term_numbers s.args.terms.now i)) l.loop-i.i)
+          (writes_append l.loop-i.invariant.1 c.write_term_line-o.ensures (omega arith)),
+      c.write_term_line-o.auto.1.1.0 ∙ l.loop-i.invariant.2,
+    )
+
+pub shape_of-out : goal.shape_of-out
+shape_of-out c = c.loop-i.invariant.2
+
+pub returns : goal.returns
+returns c =
+    let l = c in
+    let e : l.loop-i.i ≡ l.args.count = omega arith in
+    rw e at l.loop-i.invariant.1
