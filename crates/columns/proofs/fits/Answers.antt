@@ -11,6 +11,6 @@ pub returns-then-f-gt-FACT_LIMIT : goal.returns-then-f-gt-FACT_LIMIT
 unfolding within
 returns-then-f-gt-FACT_LIMIT c = simp (le-leb _ _ c.if-t-gt-TERM_LIMIT.false, lt-leb _ _ c.if-f-gt-FACT_LIMIT.true)
 
-pub returns-then-t-gt-TERM_LIMIT : goal.returns
+pub returns : goal.returns
 unfolding within
-returns-then-t-gt-TERM_LIMIT c = simp (le-leb _ _ c.if-t-gt-TERM_LIMIT.false, le-leb _ _ c.if-f-gt-FACT_LIMIT.false, c.store_length.ensures)
+returns c = simp (le-leb _ _ c.if-t-gt-TERM_LIMIT.false, le-leb _ _ c.if-f-gt-FACT_LIMIT.false, c.store_length.ensures)

@@ -31,8 +31,8 @@ returns-then-store-ne-VERSION c =
     let l = c in
     sym (sound_other l.args.store.now l.if-store-lt-HEAD_LENGTH.false (says l) c.if-store-ne-VERSION.true)
 
-pub returns-then-store-lt-HEAD_LENGTH : goal.returns
-returns-then-store-lt-HEAD_LENGTH c =
+pub returns : goal.returns
+returns c =
     let m = c in
     let l = m in
     let bs : List ℕ = l.args.store.now in

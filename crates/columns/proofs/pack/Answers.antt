@@ -40,8 +40,8 @@ returns-then-f-gt-FACT_LIMIT c =
     let a = l.args in
     packed_many_facts a.t a.f a.terms.now a.facts.now a.out.now l.if-terms-lt-TERMS_FRONT.false m.if-facts-lt-FACTS_FRONT.false n.if-out-lt-STORE_ROOM.false o.if-t-gt-TERM_LIMIT.false c.if-f-gt-FACT_LIMIT.true
 
-pub returns-then-terms-lt-TERMS_FRONT : goal.returns
-returns-then-terms-lt-TERMS_FRONT c =
+pub returns : goal.returns
+returns c =
     let facts-put = c in
     let terms-put = facts-put in
     let head-put = terms-put in

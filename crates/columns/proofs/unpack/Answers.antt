@@ -66,9 +66,9 @@ fill-requires-2 c =
     let l = m.if-facts-lt-FACTS_FRONT.false in
     (record { records = omega arith; room = omega arith }, (omega arith, l))
 
-pub returns-then-terms-lt-TERMS_FRONT : goal.returns
+pub returns : goal.returns
 unfolding stored_terms stored_facts
-returns-then-terms-lt-TERMS_FRONT c =
+returns c =
     let second = c in
     let first = second in
     let b = first in

@@ -42,8 +42,8 @@ returns-then-contains c =
       sym (numbered_at_yes a.variables a.v a.numbers d.result h),
     )
 
-pub returns-then-contains : goal.returns
-returns-then-contains c =
+pub returns : goal.returns
+returns c =
     let s = c in
     let a = s.args in
     let h = sym c.contains.ensures ∙ c.if-contains.false in (

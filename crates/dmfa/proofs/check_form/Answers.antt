@@ -29,13 +29,13 @@ number_functions-requires c =
     (s.requires.1, omega (arith, few_rules s.args.form.now s.requires.1))
 
 pub check_small-small-requires : goal.check_small-small-requires
-check_small-small-requires c = let s = c in record { deep = s.requires.0; held = s.requires.1; numbered = numbered c.before; terms_long = s.requires.2; facts_long = s.requires.3 }
+check_small-small-requires c = let s = c in record { deep = s.requires.0; held = s.requires.1; numbered = numbered c; terms_long = s.requires.2; facts_long = s.requires.3 }
 
 pub check_large-requires : goal.check_large-requires
 check_large-requires c =
     let d = c.check_small-small in
     let s = c in
-    record { deep = s.requires.0; held = s.requires.1; numbered = numbered c.before; terms_long = omega (arith, d.auto.1.1.0, s.requires.2); facts_long = omega (arith, d.auto.1.1.1.0, s.requires.3) }
+    record { deep = s.requires.0; held = s.requires.1; numbered = numbered c; terms_long = omega (arith, d.auto.1.1.0, s.requires.2); facts_long = omega (arith, d.auto.1.1.1.0, s.requires.3) }
 
 pub returns-in-Answer : goal.returns-in-Answer
 returns-in-Answer c =

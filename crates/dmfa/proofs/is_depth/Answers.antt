@@ -10,8 +10,8 @@ returns-then-depth-lt1 c = let t = c.if-depth-lt1.true in sym (not_depth c.args.
 pub returns-then-depth-gt-DEPTH_LIMIT : goal.returns-then-depth-gt-DEPTH_LIMIT
 returns-then-depth-gt-DEPTH_LIMIT c = let t = c.if-depth-gt-DEPTH_LIMIT.true in sym (not_depth c.args.depth (λ h. omega (arith, h.1)))
 
-pub returns-then-depth-lt1 : goal.returns
-returns-then-depth-lt1 c =
+pub returns : goal.returns
+returns c =
     let below = c.if-depth-lt1.false in
     let above = c.if-depth-gt-DEPTH_LIMIT.false in
     sym (is_depth_lem c.args.depth (omega arith, omega arith))

@@ -15,8 +15,8 @@ loop-j-preserved c =
     let t = c.if-f-before.false in
     (omega arith, omega arith)
 
-pub returns-then-f-before : goal.returns
-returns-then-f-before c =
+pub returns : goal.returns
+returns c =
     let i = c.loop-j.invariant in
     let t = c.loop-j-test.false in
     (i.0, i.1, λ l. absurd (omega arith))

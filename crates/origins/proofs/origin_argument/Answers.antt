@@ -10,5 +10,5 @@ overflow_cast-table c = let s = c in omega (arith, c.shared_slice_known-1.given 
 pub returns-then-k-table : goal.returns-then-k-table
 returns-then-k-table c = let s = c in argument_within s.args.table.now s.args.j s.args.k s.requires.1 c.if-k-table.true
 
-pub returns-then-k-table : goal.returns
-returns-then-k-table c = let s = c in argument_missing s.args.table.now s.args.j s.args.k c.if-k-table.false
+pub returns : goal.returns
+returns c = let s = c in argument_missing s.args.table.now s.args.j s.args.k c.if-k-table.false

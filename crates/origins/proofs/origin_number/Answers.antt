@@ -56,7 +56,7 @@ returns-then-contains-2 c =
     let a = c.args in
     ap (λ (k : ℕ). a.base + k) c.rank-then-contains-2.ensures ∙ sym (origin_other a.frontier a.others (arguments_in (row 10 a.j a.table.now)) a.base a.v (sym c.contains.ensures ∙ c.if-contains.false) (sym c.contains-2.ensures ∙ c.if-contains-2.true))
 
-pub returns-then-contains : goal.returns
-returns-then-contains c =
+pub returns : goal.returns
+returns c =
     let a = c.args in
     sym (origin_none a.frontier a.others (arguments_in (row 10 a.j a.table.now)) a.base a.v (sym c.contains.ensures ∙ c.if-contains.false) (sym c.contains-2.ensures ∙ c.if-contains-2.false))

@@ -50,8 +50,8 @@ enter_origin-requires c =
       record { room = subst (λ (x : Rows). TakesTerms a.table.now a.n x.terms) (step_owned s.requires.0.held a.table.now a.j o.result.rule o.result.disjunct (held a.table.now a.n a.facts.now a.m) o.ensures) s.requires.1.room; kept = s.requires.1.kept },
     )
 
-pub returns-then-f-eq0 : goal.returns
-returns-then-f-eq0 c =
+pub returns : goal.returns
+returns c =
     let s = c in
     let a = s.args in
     let o = c.owner_of-owner in

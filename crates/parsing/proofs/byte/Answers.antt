@@ -17,6 +17,6 @@ pub returns-then-high-b : goal.returns-then-high-b
 unfolding step_of
 returns-then-high-b c = sym (ap (step_of value) (byte_above _ _ _ _ _ (omega arith) (omega arith) c.if-high-b.true))
 
-pub returns-then-bytes-i : goal.returns
+pub returns : goal.returns
 unfolding step_of
-returns-then-bytes-i c = sym (ap (step_of value) (byte_within _ _ _ _ _ (omega arith) (omega arith) (omega arith)))
+returns c = sym (ap (step_of value) (byte_within _ _ _ _ _ (omega arith) (omega arith) (omega arith)))

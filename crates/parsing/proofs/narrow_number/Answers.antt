@@ -10,8 +10,8 @@ pub returns-then-bytes-i : goal.returns-then-bytes-i
 unfolding wide_step_of
 returns-then-bytes-i c = sym (ap wide_step_of (byte_ended _ _ _ _ _ c.if-bytes-i.true))
 
-pub returns-then-bytes-i : goal.returns
-returns-then-bytes-i c =
+pub returns : goal.returns
+returns c =
     c.within.ensures
     ∙ ap wide_step_of (ranged_same _ _ _ _ _ _ _ c.widened.ensures.0)
     ∙ sym (ap wide_step_of (byte_ranged _ _ _ _ _ (omega arith)))

@@ -13,8 +13,8 @@ pub returns-then-bytes-i-lt2 : goal.returns-then-bytes-i-lt2
 unfolding wide_step_of
 returns-then-bytes-i-lt2 c = sym (ap wide_step_of (pair_ended _ _ _ _ _ (omega (arith, c.if-bytes-i-lt2.true))))
 
-pub returns-then-bytes-i : goal.returns
-returns-then-bytes-i c =
+pub returns : goal.returns
+returns c =
     c.within.ensures
     ∙ ap wide_step_of (ranged_same _ _ _ _ _ _ _ (pair_of c.args.bytes.now c.args.i _ _ c.widened.ensures.0 c.widened-2.ensures.0))
     ∙ sym (ap wide_step_of (pair_ranged _ _ _ _ _ (omega arith)))

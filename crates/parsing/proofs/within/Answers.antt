@@ -13,6 +13,6 @@ pub returns-then-high-n : goal.returns-then-high-n
 unfolding wide_step_of
 returns-then-high-n c = sym (ap wide_step_of (ranged_above _ _ _ _ _ _ (omega arith) c.if-high-n.true))
 
-pub returns-then-n-low : goal.returns
+pub returns : goal.returns
 unfolding wide_step_of
-returns-then-n-low c = sym (ap wide_step_of (ranged_within _ _ _ _ _ _ (omega arith) (omega arith)))
+returns c = sym (ap wide_step_of (ranged_within _ _ _ _ _ _ (omega arith) (omega arith)))

@@ -46,7 +46,7 @@ whole_length c =
 read : (c : goal.In-Good-2) → Parses none (parsed_rules c.args.bytes.now (signed (version c) (arities c)) c.args.i) c.read-1.given.0.0 c.read-1.given.0.1.0
 read c = step_good none _ _ _ (sym c.read-1.given.1 ∙ c.rules-read.ensures.answer)
 
-stored : (c : goal.In-Good-2) → whole c ≡ encoded (record { version = version c.before; fixed = 0; arities = arities c.before; rules = (read c).result })
+stored : (c : goal.In-Good-2) → whole c ≡ encoded (record { version = version c; fixed = 0; arities = arities c; rules = (read c).result })
 stored c =
     form_encoded (form c) (version c) (arities c) (places c) _ (read c).result c.requires.1 c.requires.0.few c.copy.ensures
     (c.rules-read.ensures.stored _ _ (read c).parse)
@@ -88,5 +88,5 @@ returns-then-end-bytes c = ends_good _ _ _ _ _ _ _ (read c).parse c.if-end-bytes
 pub shape_of-form : goal.shape_of-form
 shape_of-form c = whole_length c
 
-pub returns-in_default : goal.returns
-returns-in_default c = ends_bad _ _ _ _ _ _ _ (read c).parse c.if-end-bytes.false
+pub returns : goal.returns
+returns c = ends_bad _ _ _ _ _ _ _ (read c).parse c.if-end-bytes.false

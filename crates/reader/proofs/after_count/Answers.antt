@@ -42,7 +42,7 @@ after_arities-requires c =
     let p = (start l).requires in
     (rw (taken l) (arities_good _ _ _ _ _ (listed l).parse p.0 p.1), p.2)
 
-pub returns-in_default : goal.returns
-returns-in_default c =
+pub returns : goal.returns
+returns c =
     let l = c in
     count_filled _ _ _ _ _ (listed l).parse _ _ _ _ (taken l) c.after_arities.ensures

@@ -34,11 +34,11 @@ slice_bounds-many_atoms-start c = simp length-set (omega (arith, zeros_length 21
 pub many_atoms-requires : goal.many_atoms-requires
 many_atoms-requires c =
     let a = c.requires in
-    (a.0, (read-few c.before, tail_zeros 20 _ _ a.1))
+    (a.0, (read-few c, tail_zeros 20 _ _ a.1))
 
 pub shape_of-row : goal.shape_of-row
 shape_of-row c =
     headed_length c.args.row.now c.count.given.0.0 c.many_atoms.new.1.1.1.1.1.0 c.many_atoms.auto.1.1.1.1.1.0
 
-pub returns-in_default : goal.returns
-returns-in_default c = atoms_filled _ _ _ _ _ _ _ _ (read c) c.requires.1 c.many_atoms.ensures
+pub returns : goal.returns
+returns c = atoms_filled _ _ _ _ _ _ _ _ (read c) c.requires.1 c.many_atoms.ensures

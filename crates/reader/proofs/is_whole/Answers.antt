@@ -9,6 +9,6 @@ use Rattle.reader.proofs.is_whole.Goals as goal
 pub returns-then-bytes-lt4 : goal.returns-then-bytes-lt4
 returns-then-bytes-lt4 c = sym (whole_short _ c.if-bytes-lt4.true)
 
-pub returns-then-bytes-lt4 : goal.returns
-returns-then-bytes-lt4 c =
+pub returns : goal.returns
+returns c =
     ap (λ (n : ℕ). eqb (n + 4) (length c.args.bytes.now)) c.stated.ensures.0 ∙ sym (whole_long _ c.if-bytes-lt4.false)

@@ -23,5 +23,5 @@ returns-in-Bad c =
     failed _ _ _ _ _ _ _ _ _ _ _ c.loop-k.invariant.2 _ _ _ _ _ (omega arith)
     (step_bad value _ _ _ (sym c.refusal.given.1 ∙ c.byte.ensures))
 
-pub returns-in-Bad : goal.returns
-returns-in-Bad c = finished_single _ _ _ _ _ _ _ _ _ c.loop-k.invariant.2 _ _ _ (λ vs m. refl) (omega arith) c.requires.1
+pub returns : goal.returns
+returns c = finished_single _ _ _ _ _ _ _ _ _ c.loop-k.invariant.2 _ _ _ (λ vs m. refl) (omega arith) c.requires.1

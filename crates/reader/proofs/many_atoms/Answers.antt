@@ -35,5 +35,5 @@ returns-in-Bad c = rows_failed c.loop-k.invariant c.requires.1.1 (grown_by_atom 
 pub shape_of-rows : goal.shape_of-rows
 shape_of-rows c = rows_same c.loop-k.invariant c.requires.1.1
 
-pub returns-in-Bad : goal.returns
-returns-in-Bad c = rows_finished c.loop-k.invariant c.requires.1.1 _ _ (λ as' e. e) (omega arith)
+pub returns : goal.returns
+returns c = rows_finished c.loop-k.invariant c.requires.1.1 _ _ (λ as' e. e) (omega arith)

@@ -29,6 +29,6 @@ returns-in-Bad c b e = rows_failed c.loop-k.invariant c.requires.1.1 atoms_set _
 pub shape_of-rows : goal.shape_of-rows
 shape_of-rows c = rows_same c.loop-k.invariant c.requires.1.1
 
-pub returns-in-Bad : goal.returns
-returns-in-Bad c b e =
+pub returns : goal.returns
+returns c b e =
     rows_finished c.loop-k.invariant c.requires.1.1 _ _ (λ ds m. fault_is b ds _ _ _ (m b e) ∙ sym c.refusal.ensures) (omega arith)

@@ -30,5 +30,5 @@ returns-in-Bad c = rows_failed c.loop-k.invariant c.requires.1.1 none _ _ _ _ _ 
 pub shape_of-rows : goal.shape_of-rows
 shape_of-rows c = rows_same c.loop-k.invariant c.requires.1.1
 
-pub returns-in-Bad : goal.returns
-returns-in-Bad c = rows_finished c.loop-k.invariant c.requires.1.1 _ _ (λ rs m. refl) (omega arith)
+pub returns : goal.returns
+returns c = rows_finished c.loop-k.invariant c.requires.1.1 _ _ (λ rs m. refl) (omega arith)

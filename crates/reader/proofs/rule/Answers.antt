@@ -121,7 +121,7 @@ returns-then-refusal-ne0 c = let h = head c in rule_bad _ _ _ _ _ _ _ _ _ _ (bod
 pub shape_of-row : goal.shape_of-row
 shape_of-row c = whole_length c
 
-pub returns-in_default : goal.returns
-returns-in_default c =
+pub returns : goal.returns
+returns c =
     let h = head c in
     rule_good _ _ _ _ _ _ _ _ _ _ (body c).parse (count c) h.parse (h.kept ∙ c.if-refusal-ne0.false) (stored c)

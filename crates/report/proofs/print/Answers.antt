@@ -35,8 +35,8 @@ write_answer-length-requires c =
     let a = k.args in
     ((a.depth, a.terms.now, a.facts.now, k.check-verdict.ensures), omega arith)
 
-pub returns-then-terms-lt-TERMS_FRONT : goal.returns
-returns-then-terms-lt-TERMS_FRONT c =
+pub returns : goal.returns
+returns c =
     let k = c in
     let e = k in
     let d = e.is_depth in

@@ -30,7 +30,7 @@ returns-in-Bad c =
     let p = c.put in
     (writing_refused _ _ _ _ _ _ _ _ _ _ _ h.4 value _ _ _ _ _ _ _ _ (omega arith) (numbers_next _ _ _ _ _ (omega arith) (here c)) c.refusal.given.1 p.ensures.0, ends_bad _ _ _ _, small_bad _ _ _)
 
-pub returns-in-Bad : goal.returns
-returns-in-Bad c =
+pub returns : goal.returns
+returns c =
     let h = c.loop-k.invariant in
     (writing_ended _ _ _ _ _ _ _ _ _ _ _ h.4 _ _ (λ vs e. refl) (omega arith) (numbers_none _ _ _ _ (omega arith)), ends_good _ _ _ _ (omega arith), small_good _ _ _ (numbers_small _ _ _ 4 (λ p l. h.3 p (omega arith))))

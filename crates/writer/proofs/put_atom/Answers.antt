@@ -55,8 +55,8 @@ put_variables-requires c =
     let h = c.requires.1 in
     record { within = omega arith; room = omega arith }
 
-pub returns-in_default : goal.returns
-returns-in_default c =
+pub returns : goal.returns
+returns c =
     let p = c.put_number-head in
     let e = c.head.given.1 in
     let t = p.ensures.2.most _ _ e in

@@ -17,8 +17,8 @@ put_many_atoms-requires c =
     let h = c.requires.1 in
     (c.requires.0, (record { within = omega arith; room = omega arith }, omega arith))
 
-pub returns-in_default : goal.returns
-returns-in_default c =
+pub returns : goal.returns
+returns c =
     let p = c.put-first in
     let e = c.first.given.1 in
     let t = p.ensures.1.next _ _ e in

@@ -15,8 +15,8 @@ put_declared-requires c =
     let h = c.requires in
     omega arith
 
-pub returns-in_default : goal.returns
-returns-in_default c =
+pub returns : goal.returns
+returns c =
     let t = c.put-first.ensures.1 in
     let e = c.first.given.1 in
     let n = t.next _ _ e in

@@ -55,8 +55,8 @@ put_rules-requires c =
     let p = c.requires in
     (record { arities = record { some = omega arith; few = omega arith; small = a.ensures.2.each _ _ e }; few = most c }, omega arith)
 
-pub returns-in_default : goal.returns
-returns-in_default c =
+pub returns : goal.returns
+returns c =
     let f = few c in
     let h = next c in
     let e = c.listed.given.1 in

@@ -35,8 +35,8 @@ returns-in-Bad c =
     let e = c.atom_place.ensures in
     (turns_refused c.loop-k.invariant atom_set _ _ _ (omega arith) (omega arith) p.ensures.0 _ _ _ _ c.refusal.given.1, ends_bad _ _ _ _)
 
-pub returns-in-Bad : goal.returns
-returns-in-Bad c =
+pub returns : goal.returns
+returns c =
     let h = c.loop-k.invariant in
     let p = c.requires.1 in
     (turns_ended h _ _ (λ as' e. e) (omega arith), ends_good _ _ _ _ (omega arith))

@@ -28,8 +28,8 @@ returns-in-Bad c =
     let e = c.group_place.ensures in
     (λ b x. turns_refused c.loop-k.invariant atoms_set _ _ _ (omega arith) (omega arith) p.ensures.0 _ _ _ _ c.refusal.given.1, ends_bad _ _ _ _)
 
-pub returns-in-Bad : goal.returns
-returns-in-Bad c =
+pub returns : goal.returns
+returns c =
     let h = c.loop-k.invariant in
     let p = c.requires.1 in
     (λ b x. turns_ended h _ _ (λ ds m. fault_is b ds _ _ _ (m b x) ∙ sym c.refusal.ensures) (omega arith), ends_good _ _ _ _ (omega arith))

@@ -33,9 +33,9 @@ narrow c = sym c.is_IsWide.ensures ∙ c.if-is_wide.false
 pub overflow_cast-out-2 : goal.overflow_cast-out-2
 overflow_cast-out-2 c = omega (arith, most_of false _ (narrow c))
 
-pub returns-then-v-low : goal.returns
+pub returns : goal.returns
 unfolding number_bytes
-returns-then-v-low c =
+returns c =
     let h = c.if-v-low.false in
     let k = c.if-high-v.false in
     (number_stored _ _ false _ _ _ _ _ (narrow c) h k (omega arith), ranged_taken _ _ _ _ _ h k, ends_good _ _ _ _ (omega arith))

@@ -49,8 +49,8 @@ returns-in_default-head c = (rule_written _ _ _ _ _ _ _ _ _ c.number.ensures _ (
 pub returns-then-refusal-ne0 : goal.returns-then-refusal-ne0
 returns-then-refusal-ne0 c = (rule_written _ _ _ _ _ _ _ _ _ c.number.ensures _ (omega (arith, c.group_place.ensures)) c.put_atoms-body.ensures.0 _ _ c.body.given.1 _ _ c.put-first.ensures.0 _ _ _ _ c.first.given.1 c.put-first.ensures.1 (λ b x. heads_unsound b _ _ _ _ _ _ _ (c.put_many_disjuncts-head.ensures.0 b x) _ _ _ c.head-1.given.1 c.if-refusal-ne0.true), ends_bad _ _ _ _)
 
-pub returns-in_default : goal.returns
-returns-in_default c =
+pub returns : goal.returns
+returns c =
     let m = c.put_atoms-body.ensures.1.most _ _ c.body.given.1 in
     let n = c.put-first.ensures.1.next _ _ c.first.given.1 in
     let k = c.put_many_disjuncts-head.ensures.1.most _ _ c.head-1.given.1 in

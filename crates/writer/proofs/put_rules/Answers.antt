@@ -18,8 +18,8 @@ put_many_rules-requires c =
     let h = c.requires.1 in
     (c.requires.0, (omega arith, omega arith))
 
-pub returns-in_default : goal.returns
-returns-in_default c =
+pub returns : goal.returns
+returns c =
     let p = c.put-first in
     let e = c.first.given.1 in
     let t = p.ensures.1.next _ _ e in

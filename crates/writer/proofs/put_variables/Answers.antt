@@ -33,8 +33,8 @@ returns-in-Bad c =
     let p = c.put in
     (writing_refused _ _ _ _ _ _ _ _ _ _ _ h.3 value _ _ _ _ _ _ _ _ (omega arith) (numbers_next _ _ _ _ _ (omega arith) c.number.ensures) c.refusal.given.1 p.ensures.0, ends_bad _ _ _ _)
 
-pub returns-in-Bad : goal.returns
-returns-in-Bad c =
+pub returns : goal.returns
+returns c =
     let h = c.loop-k.invariant in
     (writing_ended _ _ _ _ _ _ _ _ _ _ _ h.3 _ _ (λ vs e. e) (omega arith) (numbers_none _ _ _ _ (omega arith)), ends_good _ _ _ _ (omega arith))
 

@@ -40,7 +40,7 @@ put_column-requires c =
     record {
       records = c.requires.records;
       column = c.loop-j-test.true;
-      room = room c.before;
+      room = room c;
     }
 
 pub overflow_mul-end : goal.overflow_mul-end

@@ -26,10 +26,10 @@ loop-v-preserved c =
     let inv = l.loop-v.invariant.1 in (
       omega arith,
       ⊎_elim
-          (λ w. subst₂ (λ (xs : List ℕ) (n : ℕ). Counted a.existential a xs n (l.loop-v.v + 1)) (sym w.1) (sym w.2)
-          (counted_yes a.existential a l.loop-v.numbers l.loop-v.last l.loop-v.v inv (omega arith) (sym told ∙ w.0.true)))
-          (λ w. subst₂ (λ (xs : List ℕ) (n : ℕ). Counted a.existential a xs n (l.loop-v.v + 1)) (sym w.1) (sym w.2)
-          (counted_no a.existential a l.loop-v.numbers l.loop-v.last l.loop-v.v inv (sym told ∙ w.0.left))) c.if-contains.branch,
+          (λ w. subst₂ (λ (xs : List ℕ) (n : ℕ). Counted a.existential a.before xs n (l.loop-v.v + 1)) (sym w.1) (sym w.2)
+          (counted_yes a.existential a.before l.loop-v.numbers l.loop-v.last l.loop-v.v inv (omega arith) (sym told ∙ w.0.true)))
+          (λ w. subst₂ (λ (xs : List ℕ) (n : ℕ). Counted a.existential a.before xs n (l.loop-v.v + 1)) (sym w.1) (sym w.2)
+          (counted_no a.existential a.before l.loop-v.numbers l.loop-v.last l.loop-v.v inv (sym told ∙ w.0.left))) c.if-contains.branch,
     )
 
 pub returns : goal.returns

@@ -8,5 +8,5 @@ returns-then-again-ne0 c = rw (ne_eqb _ 0 c.if-again-ne0.true)
 pub returns-then-apart-ne0 : goal.returns-then-apart-ne0
 returns-then-apart-ne0 c = rw (eq-eqb _ 0 c.if-again-ne0.false, ne_eqb _ 0 c.if-apart-ne0.true)
 
-pub returns-then-again-ne0 : goal.returns
-returns-then-again-ne0 c = rw (eq-eqb _ 0 c.if-again-ne0.false, eq-eqb _ 0 c.if-apart-ne0.false)
+pub returns : goal.returns
+returns c = rw (eq-eqb _ 0 c.if-again-ne0.false, eq-eqb _ 0 c.if-apart-ne0.false)

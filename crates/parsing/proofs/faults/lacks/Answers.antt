@@ -7,6 +7,6 @@ pub returns-then-set-eq0 : goal.returns-then-set-eq0
 unfolding lacking
 returns-then-set-eq0 c = rw (eq-eqb _ 0 c.if-set-eq0.true, lacking)
 
-pub returns-then-set-eq0 : goal.returns
+pub returns : goal.returns
 unfolding lacking
-returns-then-set-eq0 c = rw (ne_eqb _ 0 c.if-set-eq0.false, lacking)
+returns c = rw (ne_eqb _ 0 c.if-set-eq0.false, lacking)

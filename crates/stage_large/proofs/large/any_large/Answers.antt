@@ -171,7 +171,7 @@ pass-requires c =
             start = (at p).loop-body.invariant.0.start;
             walking = record { four = (at p).loop-body.invariant.3; walked = (at p).loop-body.invariant.0.walked };
           });
-      here = r.ensures.one (found (counted p));
+      here = r.ensures.one (found (counted p).before);
       least = r.ensures.least;
     })
 
@@ -185,7 +185,7 @@ loop-body-preserved c =
     let s = start (m p) in
     let a = s.args in
     let k = (kept p).kept-why in (
-      seeking_fails (at p).loop-body.invariant.0 (searchable (m p)).some (comes f) (found (counted p)) k.result
+      seeking_fails (at p).loop-body.invariant.0 (searchable (m p)).some (comes f) (found (counted p).before) k.result
           (record { fails = kept_small a.terms.now a.set a.most f.first-next.result.trigger k.result s.pre.bounding k.ensures.0 }) (further p c.pass.ensures),
       k.ensures.1,
       k.kept-why.1.1.1.1.1.1.0 ∙ (counted p).places-sum.auto.1.1.1.1.0 ∙ (at p).loop-body.invariant.2,

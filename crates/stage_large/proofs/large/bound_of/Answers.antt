@@ -56,8 +56,8 @@ returns-then-sum-gt-PLACES_COUNTED c =
     let e = bounds_end (λ (x : ℕ). get_or a.bounds.now x 0) a.terms.now a.i l.loop-j.j (omega arith) in
     omega (arith, e, l.loop-j.invariant.3)
 
-pub returns-then-sum-gt-PLACES_COUNTED : goal.returns
-returns-then-sum-gt-PLACES_COUNTED c =
+pub returns : goal.returns
+returns c =
     let l = c in
     let a = l.args in
     let e = bounds_end (λ (x : ℕ). get_or a.bounds.now x 0) a.terms.now a.i l.loop-j.j (omega arith) in

@@ -27,7 +27,7 @@ bound_of-bound-requires c =
     let s = l in
     let o = s.requires in
     let i = l.loop-i.i in
-    (omega (arith, o.room), o.arity i (omega arith), (λ j h. let b = o i j (omega arith) h in omega (arith, l.loop-i.invariant.2)))
+    (omega (arith, o.room), o.arity i (omega arith), (λ j h. let b = o.before i j (omega arith) h in omega (arith, l.loop-i.invariant.2)))
 
 pub overflow_cast-bounds : goal.overflow_cast-bounds
 overflow_cast-bounds c = omega (arith, c.bound_of-bound.ensures)
@@ -50,9 +50,9 @@ loop-i-preserved c =
       bounds_with s.requires l.loop-i.bounds l.loop-i.i l.loop-i.most most d.bound_of-bound.result (omega arith) (omega (arith, l.loop-i.invariant.2)) e b.0 l.loop-i.invariant.3,
     )
 
-pub returns-then-n-gt-TERM_LIMIT : goal.returns
+pub returns : goal.returns
 unfolding most_size
-returns-then-n-gt-TERM_LIMIT c =
+returns c =
     let l = c in
     let n = l.args.n in
     let e = le-ltb 512 n l.if-n-gt-TERM_LIMIT.false in

@@ -13,8 +13,8 @@ returns-then-is_blockable c =
     ap not c.is_idle.ensures
     ∙ ap (λ (b : Bool). b && not (idle r a.facts.now a.counts.facts a.counts.old)) (sym (sym k.is_blockable.ensures ∙ c.if-is_blockable.true))
 
-pub returns-then-is_blockable : goal.returns
-returns-then-is_blockable c =
+pub returns : goal.returns
+returns c =
     let k = c in
     let a = k.args in
     let r = rule_of a.form.now a.i in

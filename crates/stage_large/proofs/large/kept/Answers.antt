@@ -31,7 +31,7 @@ overflow_cast-term c =
     omega arith
 
 pub size_of-requires : goal.size_of-requires
-size_of-requires c = ((start c).pre.ordered, below c.before, (loop c).loop-v.inv.2)
+size_of-requires c = ((start c).pre.ordered, below c, (loop c).loop-v.inv.2)
 
 pub overflow_sub-cost : goal.overflow_sub-cost
 overflow_sub-cost c =

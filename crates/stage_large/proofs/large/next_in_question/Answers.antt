@@ -40,8 +40,8 @@ loop-i-preserved c =
       one_more (λ (k : ℕ). in_question (rule_of a.form.now k) a.facts.now a.counts ≡ false) a.from l.loop-i.i l.loop-i.invariant.3 (sym c.in_question.ensures ∙ c.if-in_question.false),
     )
 
-pub returns-then-in_question : goal.returns
-returns-then-in_question c =
+pub returns : goal.returns
+returns c =
     let l = c in
     record {
       onward = l.loop-i.invariant.0;

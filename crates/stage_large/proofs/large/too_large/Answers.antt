@@ -173,8 +173,8 @@ loop-i-preserved c =
     ))
     c.if-can_be_large.branch
 
-pub returns-then-i-rules : goal.returns
-returns-then-i-rules c =
+pub returns : goal.returns
+returns c =
     let l = c in
     let a = l.args in
     sym (l.loop-i.invariant.2 ∙ any_end (large_rule (tables a.terms.now a.counts.terms a.facts.now a.counts.facts)) (rules_of a.form.now) l.loop-i.i (omega arith))

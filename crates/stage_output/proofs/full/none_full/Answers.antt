@@ -41,8 +41,8 @@ loop-d-preserved c =
     let g = ground_in a.left a.terms.now in
     below_more (λ (x : ℕ). all (none_full_of g) (functions_of (numbered_of a.form.now a.i x)) ≡ true) l.loop-d.d l.loop-d.invariant (sym f.ensures ∙ not-false f.result c.if-not-none_full_at.false)
 
-pub returns-then-not-none_full_at : goal.returns
-returns-then-not-none_full_at c =
+pub returns : goal.returns
+returns c =
     let l = c in
     let s = l in
     let a = s.args in

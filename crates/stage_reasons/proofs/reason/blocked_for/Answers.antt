@@ -16,8 +16,8 @@ returns-then-reason c = c.blocked_for_disjunct-reason.ensures
 pub blocked_outside-requires : goal.blocked_outside-requires
 blocked_outside-requires c = let p = c.requires in (p.rule, p.ordered, p.testing c.args.whole)
 
-pub returns-then-reason : goal.returns
-returns-then-reason c =
+pub returns : goal.returns
+returns c =
     let s = c in
     let a = s.args in
     λ e. frontier_blocked a.form.now a.i (rows 10 a.left.terms a.terms.now) a.trigger a.whole (sym c.blocked_outside.ensures ∙ e) s.requires.frontier_is

@@ -35,5 +35,5 @@ returns-then-blocked_outside c =
 pub loop-d-preserved : goal.loop-d-preserved
 loop-d-preserved c = next_turn c.loop-d.invariant (omega arith)
 
-pub returns-then-blocked_outside : goal.returns
-returns-then-blocked_outside c = λ e. not_both false e refl
+pub returns : goal.returns
+returns c = λ e. not_both false e refl

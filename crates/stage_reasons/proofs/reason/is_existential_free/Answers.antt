@@ -42,8 +42,8 @@ loop-d-preserved c =
       l.loop-d.invariant.1 ∙ all_passed (existential_free r) r.head l.loop-d.d [] (omega (arith, l.loop-d.invariant.0.count)) (ap (λ (n : ℕ). eqb n 0) (sym k.ensures) ∙ eq-eqb k.result 0 c.if-skolem_count-ne0.false),
     )
 
-pub returns-then-skolem_count-ne0 : goal.returns
-returns-then-skolem_count-ne0 c =
+pub returns : goal.returns
+returns c =
     let l = c in
     let s = l in
     let r = rule_of s.args.form.now s.args.i in

@@ -32,9 +32,9 @@ all_variables-requires c =
     (sound_atoms (disjunct_of a.form.now a.i a.d) (arities_of a.form.now) (arity_range a.form.now r.held)
     (disjunct_well_formed a.form.now r.held a.i a.d r.within s.requires.1))
 
-pub returns-then-skolem_count-ne0 : goal.returns
+pub returns : goal.returns
 unfolding existential_free
-returns-then-skolem_count-ne0 c =
+returns c =
     let n = c in
     let o = n.skolem_count in
     let s = n in
