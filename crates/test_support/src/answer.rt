@@ -1,10 +1,11 @@
 // What `read`, `write` and `print` answer. The contracts cite specs/Answer.
-ghost use Rattle.std.specs.Prelude.{◌≡◌, not, ◌&&◌, eqb};
+ghost use Rattle.std.specs.Prelude.{◌≡◌, not, ◌&&◌, ◌==◌, IfOk};
 ghost use Rattle.reader.specs.Transfer.{transfer_of};
 ghost use Rattle.test_support.specs.Answer.{refusal_of, place_of};
 
 use crate::say;
 use reader::Transfer;
+use std::io;
 
 // 0 and how many bytes were read or written, or a refusal and its place.
 #[derive(Clone, Copy)]
@@ -29,14 +30,14 @@ pub fn shown(t: Transfer) -> Answer
 }
 
 // Whether a case expects another answer, which is then said.
-pub fn is_other(line: &[u8], expected: Answer, found: Answer) -> bool
-    ensures { result ≡ not (eqb found.refusal expected.refusal && eqb found.place expected.place) }
+pub fn is_other(rt: &HostRuntime, line: &[u8], expected: Answer, found: Answer) -> io::Result<bool>
+    ensures { IfOk result (λ other. other ≡ not (found.refusal == expected.refusal && found.place == expected.place)) }
 {
     if found.refusal == expected.refusal {
         if found.place == expected.place {
-            return false;
+            return Ok(false);
         }
     }
-    say::answer(line, found.refusal, found.place);
-    true
+    say::answer(rt, line, found.refusal, found.place)?;
+    Ok(true)
 }

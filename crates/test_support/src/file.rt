@@ -1,22 +1,37 @@
 // A file's bytes.
-ghost use Rattle.io.specs.Counts.{IsPrefixLen};
+ghost use Rattle.std.specs.Prelude.{◌≤◌, length, IfOk};
 
 use crate::say;
+use std::fs::File;
+use std::io::Read;
+use std::{fs, io};
 
-// Opens a file; one that cannot be opened is said, and its number is below 0.
-pub fn open(path: &[u8]) -> i32 {
-    let fd = os::open_read(path);
-    if fd < 0 {
-        say::note(path, b"cannot be opened");
+// Opens a file; one that cannot be opened is said.
+pub fn open(rt: &HostRuntime, path: &[u8]) -> io::Result<Option<File>> {
+    let Ok(name) = str::from_utf8(path) else {
+        say::note(rt, path, b"cannot be opened")?;
+        return Ok(None);
+    };
+    match fs::open(rt, name) {
+        Ok(file) => Ok(Some(file)),
+        Err(_) => {
+            say::note(rt, path, b"cannot be opened")?;
+            Ok(None)
+        }
     }
-    fd
 }
 
 // Reads an open file into the front of a list, as far as it fits, closes it, and answers how many bytes.
-pub fn load(fd: i32, bytes: &mut [u8]) -> usize
-    ensures { IsPrefixLen result bytes.new }
+pub fn load(mut file: File, bytes: &mut [u8]) -> io::Result<usize>
+    ensures { IfOk result (λ n. n ≤ length bytes.new) }
 {
-    let n = io::read_full(fd, bytes);
-    libc::close(fd);
-    n
+    let mut n = 0;
+    while n < bytes.len() {
+        let more = file.read(&mut bytes[n..])?;
+        if more == 0 {
+            break;
+        }
+        n += more;
+    }
+    Ok(n)
 }

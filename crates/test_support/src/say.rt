@@ -1,39 +1,44 @@
 // The lines of the output.
-use libc::STDOUT_FILENO;
+use std::io;
+use std::io::Print;
 
-fn word(text: &[u8]) {
-    io::write_all(STDOUT_FILENO, text);
+fn word(rt: &HostRuntime, text: &[u8]) -> io::Result<()> {
+    rt.write_all(text)
 }
 
 // A number after a space.
-fn figure(n: usize) {
-    word(b" ");
-    io::print_decimal(STDOUT_FILENO, n as u64);
+fn figure(rt: &HostRuntime, n: usize) -> io::Result<()> {
+    print!(rt; " {n}")
 }
 
 // A line about a case.
-pub fn note(line: &[u8], text: &[u8]) {
-    word(line);
-    word(b": ");
-    word(text);
-    word(b"\n");
+pub fn note(rt: &HostRuntime, line: &[u8], text: &[u8]) -> io::Result<()> {
+    word(rt, line)?;
+    word(rt, b": ")?;
+    word(rt, text)?;
+    word(rt, b"\n")
 }
 
 // The line of a case with another answer than the one that came.
-pub(crate) fn answer(line: &[u8], refusal: usize, place: usize) {
-    word(line);
-    word(b": answered");
-    figure(refusal);
-    figure(place);
-    word(b"\n");
+pub(crate) fn answer(
+    rt: &HostRuntime,
+    line: &[u8],
+    refusal: usize,
+    place: usize,
+) -> io::Result<()> {
+    word(rt, line)?;
+    word(rt, b": answered")?;
+    figure(rt, refusal)?;
+    figure(rt, place)?;
+    word(rt, b"\n")
 }
 
 // The line of a group.
-pub fn count(name: &[u8], cases: usize, differences: usize) {
-    word(name);
-    word(b":");
-    figure(cases);
-    word(b" cases,");
-    figure(differences);
-    word(b" differences\n");
+pub fn count(rt: &HostRuntime, name: &[u8], cases: usize, differences: usize) -> io::Result<()> {
+    word(rt, name)?;
+    word(rt, b":")?;
+    figure(rt, cases)?;
+    word(rt, b" cases,")?;
+    figure(rt, differences)?;
+    word(rt, b" differences\n")
 }
