@@ -43,7 +43,7 @@ loop-j-preserved c =
       i.2,
       omega (arith, before_more f l.j),
       omega (arith, few_functions f l.j),
-      ap (λ (t : List ℕ). set t l.j l.total) i.5 ∙ numbering_more f l.j s.args.now l.total (omega arith) i.3,
+      ap (λ (t : List ℕ). set t l.j l.total) i.5 ∙ numbering_more f l.j s.args.before.now l.total (omega arith) i.3,
       simp length-set i.6,
     )
 
@@ -53,7 +53,7 @@ returns c =
     let f = s.args.form.now in
     let l = c.loop-j in
     let e : l.j ≡ places f = omega arith in
-    (l.invariant.3 ∙ ap (functions_before f) e, l.invariant.5 ∙ ap (λ (m : ℕ). numbering f m ++ drop m s.args.now) e)
+    (l.invariant.3 ∙ ap (functions_before f) e, l.invariant.5 ∙ ap (λ (m : ℕ). numbering f m ++ drop m s.args.before.now) e)
 
 pub rule_count-n-requires : goal.rule_count-n-requires
 rule_count-n-requires c = c.requires.0

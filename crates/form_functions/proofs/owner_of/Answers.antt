@@ -34,4 +34,4 @@ returns c =
     let n = c.rule_count.ensures in
     let e = c.place_of-j.ensures in
     owner_place f s.requires.0 s.args.f j (omega arith) (omega (arith, s.requires.1.each j (omega arith)))
-    (next_before f s.args.now s.requires.1 s.args.f j (omega arith) (λ l. e.2 (omega arith)) s.requires.3)
+    (next_before f s.args.before.now s.requires.1 s.args.f j (omega arith) (λ l. e.2 (omega arith)) s.requires.3)

@@ -13,27 +13,27 @@ use Rattle.reader.proofs.many_atoms.Goals as goal
 
 pub loop-k-init : goal.loop-k-init
 unfolding set_of variables_of collect
-loop-k-init c = rows_begun c.requires.1.1 refl
+loop-k-init c = rows_begun c.requires.n_bound.1 refl
 
 pub atom-requires : goal.atom-requires
 atom-requires c =
     let a = c.requires in
-    (a.0, rows_lent c.loop-k.invariant a.1.1 (omega arith))
+    record { arities = a.arities; row_value = rows_lent c.loop-k.invariant a.n_bound.1 (omega arith) }
 
 pub loop-k-preserved : goal.loop-k-preserved
 loop-k-preserved c =
     let f = c.atom in
-    rows_more c.loop-k.invariant c.requires.1.1 _ f.auto.1.1.1.1.1.0 (grown_by_atom c.loop-k.set) _ _ _ _ (omega arith) (omega arith) c.grown.given.1 f.ensures
+    rows_more c.loop-k.invariant c.requires.n_bound.1 _ f.auto.row (grown_by_atom c.loop-k.set) _ _ _ _ (omega arith) (omega arith) c.in-Good.is f.ensures
     (kept_afresh c.loop-k.set _)
 
 pub shape_of-rows-in-Bad : goal.shape_of-rows-in-Bad
-shape_of-rows-in-Bad c = rows_length c.loop-k.invariant c.requires.1.1 c.atom.new.1.1.1.1.1.0 c.atom.auto.1.1.1.1.1.0
+shape_of-rows-in-Bad c = rows_length c.loop-k.invariant c.requires.n_bound.1 c.atom.new.row c.atom.auto.row
 
 pub returns-in-Bad : goal.returns-in-Bad
-returns-in-Bad c = rows_failed c.loop-k.invariant c.requires.1.1 (grown_by_atom c.loop-k.set) _ _ _ _ _ _ _ (omega arith) c.refusal.given.1 c.atom.ensures
+returns-in-Bad c = rows_failed c.loop-k.invariant c.requires.n_bound.1 (grown_by_atom c.loop-k.set) _ _ _ _ _ _ _ (omega arith) c.in-Bad.is c.atom.ensures
 
 pub shape_of-rows : goal.shape_of-rows
-shape_of-rows c = rows_same c.loop-k.invariant c.requires.1.1
+shape_of-rows c = rows_same c.loop-k.invariant c.requires.n_bound.1
 
 pub returns : goal.returns
-returns c = rows_finished c.loop-k.invariant c.requires.1.1 _ _ (λ as' e. e) (omega arith)
+returns c = rows_finished c.loop-k.invariant c.requires.n_bound.1 _ _ (λ as' e. e) (omega arith)

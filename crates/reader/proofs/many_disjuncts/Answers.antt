@@ -9,26 +9,26 @@ use Rattle.parsing.proofs.Heads.{keeps_none, keeps_more, fault_is}
 use Rattle.reader.proofs.many_disjuncts.Goals as goal
 
 pub loop-k-init : goal.loop-k-init
-loop-k-init c = rows_begun c.requires.1.1 (keeps_none _ _ c.none-heads.ensures)
+loop-k-init c = rows_begun c.requires.n_bound.1 (keeps_none _ _ c.none-heads.ensures)
 
 pub atoms-requires : goal.atoms-requires
-atoms-requires c = let a = c.requires in (a.0, rows_lent c.loop-k.invariant a.1.1 (omega arith))
+atoms-requires c = let a = c.requires in record { arities = a.arities; row_value = rows_lent c.loop-k.invariant a.n_bound.1 (omega arith) }
 
 pub loop-k-preserved : goal.loop-k-preserved
 loop-k-preserved c =
     let f = c.atoms in
-    rows_more c.loop-k.invariant c.requires.1.1 _ f.auto.1.1.1.1.0 atoms_set _ _ _ _ (omega arith) (omega arith) c.set-1.given.1 f.ensures
+    rows_more c.loop-k.invariant c.requires.n_bound.1 _ f.auto.row atoms_set _ _ _ _ (omega arith) (omega arith) c.in-Good.is f.ensures
     (keeps_more _ _ _ _ c.ranges.body.fits c.with-heads.ensures)
 
 pub shape_of-rows-in-Bad : goal.shape_of-rows-in-Bad
-shape_of-rows-in-Bad c = rows_length c.loop-k.invariant c.requires.1.1 c.atoms.new.1.1.1.1.0 c.atoms.auto.1.1.1.1.0
+shape_of-rows-in-Bad c = rows_length c.loop-k.invariant c.requires.n_bound.1 c.atoms.new.row c.atoms.auto.row
 
 pub returns-in-Bad : goal.returns-in-Bad
-returns-in-Bad c b e = rows_failed c.loop-k.invariant c.requires.1.1 atoms_set _ _ _ _ _ _ _ (omega arith) c.refusal.given.1 c.atoms.ensures
+returns-in-Bad c b e = rows_failed c.loop-k.invariant c.requires.n_bound.1 atoms_set _ _ _ _ _ _ _ (omega arith) c.in-Bad.is c.atoms.ensures
 
 pub shape_of-rows : goal.shape_of-rows
-shape_of-rows c = rows_same c.loop-k.invariant c.requires.1.1
+shape_of-rows c = rows_same c.loop-k.invariant c.requires.n_bound.1
 
 pub returns : goal.returns
 returns c b e =
-    rows_finished c.loop-k.invariant c.requires.1.1 _ _ (λ ds m. fault_is b ds _ _ _ (m b e) ∙ sym c.refusal.ensures) (omega arith)
+    rows_finished c.loop-k.invariant c.requires.n_bound.1 _ _ (λ ds m. fault_is b ds _ _ _ (m b e) ∙ sym c.refusal.ensures) (omega arith)

@@ -8,27 +8,27 @@ use Rattle.parsing.proofs.Many.{rows_begun, rows_lent, rows_length, rows_more, r
 use Rattle.reader.proofs.many_rules.Goals as goal
 
 pub loop-k-init : goal.loop-k-init
-loop-k-init c = rows_begun c.requires.1.1 tt
+loop-k-init c = rows_begun c.requires.n_le_rule_limit.1 tt
 
 pub rule-requires : goal.rule-requires
 rule-requires c =
     let a = c.requires in
-    (a.0, rows_lent c.loop-k.invariant a.1.1 (omega arith))
+    record { arities = a.arities; row_value = rows_lent c.loop-k.invariant a.n_le_rule_limit.1 (omega arith) }
 
 pub loop-k-preserved : goal.loop-k-preserved
 loop-k-preserved c =
     let f = c.rule in
-    rows_more c.loop-k.invariant c.requires.1.1 _ f.auto.1.1.1.1.0 none _ _ 0 _ (omega arith) (omega arith) c.next.given.1 f.ensures
+    rows_more c.loop-k.invariant c.requires.n_le_rule_limit.1 _ f.auto.row none _ _ 0 _ (omega arith) (omega arith) c.in-Good.is f.ensures
     (λ r e rs m. tt)
 
 pub shape_of-rows-in-Bad : goal.shape_of-rows-in-Bad
-shape_of-rows-in-Bad c = rows_length c.loop-k.invariant c.requires.1.1 c.rule.new.1.1.1.1.0 c.rule.auto.1.1.1.1.0
+shape_of-rows-in-Bad c = rows_length c.loop-k.invariant c.requires.n_le_rule_limit.1 c.rule.new.row c.rule.auto.row
 
 pub returns-in-Bad : goal.returns-in-Bad
-returns-in-Bad c = rows_failed c.loop-k.invariant c.requires.1.1 none _ _ _ _ _ _ _ (omega arith) c.refusal.given.1 c.rule.ensures
+returns-in-Bad c = rows_failed c.loop-k.invariant c.requires.n_le_rule_limit.1 none _ _ _ _ _ _ _ (omega arith) c.in-Bad.is c.rule.ensures
 
 pub shape_of-rows : goal.shape_of-rows
-shape_of-rows c = rows_same c.loop-k.invariant c.requires.1.1
+shape_of-rows c = rows_same c.loop-k.invariant c.requires.n_le_rule_limit.1
 
 pub returns : goal.returns
-returns c = rows_finished c.loop-k.invariant c.requires.1.1 _ _ (λ rs m. refl) (omega arith)
+returns c = rows_finished c.loop-k.invariant c.requires.n_le_rule_limit.1 _ _ (λ rs m. refl) (omega arith)

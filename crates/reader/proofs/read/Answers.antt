@@ -18,10 +18,10 @@ pub returns-in-Done : goal.returns-in-Done
 returns-in-Done c =
     let s = c in
     let d = c.read_afresh in
-    afresh_copied _ _ c.if-form-lt-LENGTH.false _ d.new.1.0 _ (subst (λ (r : Transfer). ReadsAfresh s.args.bytes.now r d.new.1.0) c.end-1.given.1 d.ensures) d.auto.1.0 c.copy.ensures
+    afresh_copied _ _ c.if-form-lt-LENGTH.false _ d.new.form _ (subst (λ (r : Transfer). ReadsAfresh s.args.bytes.now r d.new.form) c.in-Done.is d.ensures) d.auto.form c.copy.ensures
 
 pub returns-in-Refusal : goal.returns-in-Refusal
 returns-in-Refusal c =
     let s = c in
     let d = c.read_afresh in
-    afresh_refused _ _ c.if-form-lt-LENGTH.false _ _ (subst (λ (r : Transfer). ReadsAfresh s.args.bytes.now r d.new.1.0) c.refusal.given.1 d.ensures)
+    afresh_refused _ _ c.if-form-lt-LENGTH.false _ _ (subst (λ (r : Transfer). ReadsAfresh s.args.bytes.now r d.new.form) c.in-Refusal.is d.ensures)
