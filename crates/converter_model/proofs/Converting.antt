@@ -16,11 +16,10 @@ use Rattle.model.specs.Rules.{RuleSet, wide, most_predicates}
 use Rattle.model.specs.WellFormed.{WellFormed}
 use Rattle.model.specs.Format.{Parsed, good, bad, and_then, byte, number, many, rule, signed, rule_set, whole, read, bytes_of}
 use Rattle.model.specs.Form.{done, refusal, Writing}
-use Rattle.laws.proofs.Bools.{case, not_both}
+use Rattle.laws.proofs.Bools.{case}
 use Rattle.parsing.proofs.Parsing.{bad_is_not_good, Within, byte_good, byte_within, byte_ended}
 use Rattle.parsing.proofs.Numbers.{number_good, ranged_good, ranged_within, pair_ranged, pair_ended}
 use Rattle.parsing.proofs.Many.{many_length}
-use Rattle.laws_format.proofs.Bytes.{read_well_formed, read_of_bytes, bytes_at_most}
 use Rattle.converter_model.specs.Converter.{versioned, opening, convertible, converting}
 
 -- a version that there is

@@ -10,10 +10,9 @@ use Rattle.converter.proofs.opening.Goals as goal
 pub returns-in-Good : goal.returns-in-Good
 unfolding opening
 returns-in-Good c =
-    let i = c.i-1.given in
-    let first = step_value _ _ _ (sym i.1 ∙ c.byte.ensures) in
+    let first = step_value _ _ _ (sym c.in-Good.is ∙ c.byte.ensures) in
     c.number.ensures ∙ sym (ap wide_step_of (parts_good _ _ _ _ first))
 
 pub returns-in-Bad : goal.returns-in-Bad
 unfolding opening wide_step_of
-returns-in-Bad c = sym (ap wide_step_of (parts_bad _ _ _ _ (step_bad value _ _ _ (sym c.refusal.given.1 ∙ c.byte.ensures))))
+returns-in-Bad c = sym (ap wide_step_of (parts_bad _ _ _ _ (step_bad value _ _ _ (sym c.in-Bad.is ∙ c.byte.ensures))))

@@ -13,16 +13,13 @@ read_afresh-requires c = refl
 
 pub returns-in-Done : goal.returns-in-Done
 returns-in-Done c =
-    let t = c in
-    let d = t.read_afresh in
-    let s = t in
-    let was = subst (λ (x : Transfer). ReadsAfresh s.args.bytes.now x d.new.1.0) t.enum_told-1.given.1 d.ensures in
-    rewriting_written s.args.version s.args.bytes.now s.args.out.now _ _ was c.write.ensures
+    let s = c.args in
+    let d = c.read_afresh in
+    let was = subst (λ (x : Transfer). ReadsAfresh s.bytes.now x d.new.form) c.in-Done.is d.ensures in
+    rewriting_written s.version s.bytes.now s.out.now _ _ was c.write.ensures
 
 pub returns-in-Refusal : goal.returns-in-Refusal
 returns-in-Refusal c =
-    let r = c.refusal.given in
     let d = c.read_afresh in
-    let s = c in
-    let was = subst (λ (x : Transfer). ReadsAfresh s.args.bytes.now x d.new.1.0) r.1 d.ensures in
+    let was = subst (λ (x : Transfer). ReadsAfresh c.args.bytes.now x d.new.form) c.in-Refusal.is d.ensures in
     rewriting_bad _ _ _ _ _ (reading_refused _ (zeros _) zeros_long _ _ was)

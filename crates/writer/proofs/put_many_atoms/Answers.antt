@@ -1,6 +1,5 @@
 -- `writer::put_many_atoms` meets its contract: between turns the loop is as `Turns` says. Assumes nothing.
 use mathlib.Core.Path.{refl}
-use Prim.Native.Nat.{◌-◌}
 use native.Mathlib.Omega.{arith}
 use Rattle.model.specs.Lists.{collect}
 use Rattle.model.specs.Rules.{variables_of}
@@ -19,24 +18,24 @@ pub put_atom-requires : goal.put_atom-requires
 put_atom-requires c =
     let e = c.atom_place.ensures in
     let h = c.loop-k.invariant in
-    let p = c.requires.1 in
-    (c.requires.0, record { within = omega arith; room = omega arith })
+    let p = c.requires.fits in
+    record { declared = c.requires.declared; fits = record { within = omega arith; room = omega arith } }
 
 pub loop-k-preserved : goal.loop-k-preserved
 loop-k-preserved c =
     let p = c.put_atom in
     let e = c.atom_place.ensures in
-    turns_more c.loop-k.invariant atom_set _ _ _ (omega arith) (omega arith) p.ensures.0 _ _ _ c.variables.given.1 p.ensures.1 p.auto.1.1.1.1.1.0
+    turns_more c.loop-k.invariant atom_set _ _ _ (omega arith) (omega arith) p.ensures.0 _ _ _ c.in-Good.is p.ensures.1 p.auto.out
     (atoms_set_more _ _)
 
 pub returns-in-Bad : goal.returns-in-Bad
 returns-in-Bad c =
     let p = c.put_atom in
     let e = c.atom_place.ensures in
-    (turns_refused c.loop-k.invariant atom_set _ _ _ (omega arith) (omega arith) p.ensures.0 _ _ _ _ c.refusal.given.1, ends_bad _ _ _ _)
+    (turns_refused c.loop-k.invariant atom_set _ _ _ (omega arith) (omega arith) p.ensures.0 _ _ _ _ c.in-Bad.is, ends_bad _ _ _ _)
 
 pub returns : goal.returns
 returns c =
     let h = c.loop-k.invariant in
-    let p = c.requires.1 in
+    let p = c.requires.fits in
     (turns_ended h _ _ (λ as' e. e) (omega arith), ends_good _ _ _ _ (omega arith))

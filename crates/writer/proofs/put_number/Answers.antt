@@ -8,6 +8,7 @@ use Rattle.model.specs.Format.{number_bytes}
 use Rattle.parsing.proofs.Numbers.{most_of}
 use Rattle.writer.proofs.Writing.{ends_bad, ends_good}
 use Rattle.writer.proofs.Numbers.{number_below, number_above, number_stored, ranged_refused, ranged_taken}
+use Rattle.writer.proofs.put_number.Goals.{Else-is_wide}
 use Rattle.writer.proofs.put_number.Goals as goal
 
 pub returns-then-v-low : goal.returns-then-v-low
@@ -24,11 +25,11 @@ unfolding number_bytes
 returns-then-is_wide c =
     let h = c.if-v-low.false in
     let k = c.if-high-v.false in
-    (number_stored _ _ true _ _ _ _ _ (sym c.is_IsWide.ensures ∙ c.if-is_wide.true) h k (omega arith), ranged_taken _ _ _ _ _ h k, ends_good _ _ _ _ (omega arith))
+    (number_stored _ _ true _ _ _ _ _ (sym c.is_wide.ensures ∙ c.if-is_wide.true) h k (omega arith), ranged_taken _ _ _ _ _ h k, ends_good _ _ _ _ (omega arith))
 
 -- one byte
-narrow : (c : goal.Else-is_wide) → wide c.args.version ≡ false
-narrow c = sym c.is_IsWide.ensures ∙ c.if-is_wide.false
+narrow : (c : Else-is_wide) → wide c.args.version ≡ false
+narrow c = sym c.is_wide.ensures ∙ c.if-is_wide.false
 
 pub overflow_cast-out-2 : goal.overflow_cast-out-2
 overflow_cast-out-2 c = omega (arith, most_of false _ (narrow c))

@@ -5,23 +5,23 @@ use Rattle.writer.proofs.ContentWriting.{rules_refused, rules_written}
 use Rattle.writer.proofs.put_rules.Goals as goal
 
 pub returns-in_default : goal.returns-in_default
-returns-in_default c = (rules_refused _ _ _ _ _ _ _ _ c.number.ensures c.put-first.ensures.0 _ _ _ c.enum_told-1.given.1, ends_refused _ _ _ _ _ c.enum_told-1.given.1)
+returns-in_default c = (rules_refused _ _ _ _ _ _ _ _ c.number.ensures c.put-first.ensures.0 _ _ _ c.in_default.is, ends_refused _ _ _ _ _ c.in_default.is)
 
 pub put_many_rules-requires : goal.put_many_rules-requires
 put_many_rules-requires c =
     let t = c.put-first.ensures.1 in
-    let e = c.first-1.given.1 in
+    let e = c.in-Good.is in
     let same = t.same _ _ e in
     let most = t.most _ _ e in
     let next = t.next _ _ e in
-    let l = c.put-first.auto.1.1.1.1.1.0 in
-    let h = c.requires.1 in
-    (c.requires.0, (omega arith, omega arith))
+    let l = c.put-first.auto.out in
+    let h = c.requires.rules_room_in_bounds in
+    record { declared = c.requires.declared; rules_room_in_bounds = (omega arith, omega arith) }
 
 pub returns : goal.returns
 returns c =
     let p = c.put-first in
-    let e = c.first.given.1 in
+    let e = c.in-Good.is in
     let t = p.ensures.1.next _ _ e in
     let v = c.put_many_rules.ensures in
     (rules_written _ _ _ _ _ _ _ _ c.number.ensures p.ensures.0 _ _ _ _ e p.ensures.1 v.0, ends_within _ _ _ _ _ v.1 (omega arith))

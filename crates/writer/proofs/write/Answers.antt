@@ -1,96 +1,102 @@
 -- `writer::write` meets its contract: the parse of the bytes that the form spells decides, and what was written is these bytes.
 -- Assumes nothing.
-use mathlib.Core.Path.{◌≡◌, sym, ap, ◌∙◌, subst}
-use mathlib.Core.List.{List, [], ◌++◌, append-nil}
+use mathlib.Core.Path.{◌≡◌, refl, sym, ap, ◌∙◌}
+use mathlib.Core.List.{List, [], append-nil}
 use Prim.Native.Nat.{ℕ, ◌≤◌, ◌-◌}
 use native.Mathlib.Omega.{arith}
-use lib.ListN.{length, take, drop}
-use lib.Seq.{take_all}
-use Rattle.model.specs.Format.{good, rule_set, bytes_of}
+use lib.ListN.{length, take}
+use lib.Seq.{length-take-le}
+use Rattle.model.specs.Format.{good, rule_set, content, bytes_of}
 use Rattle.model.specs.Form.{decoded}
 use Rattle.laws_format.proofs.Bytes.{bytes_of_length, drop_bytes_of}
 use Rattle.laws_format.proofs.RoundTrip.{writing_bad, writing_short}
 use Rattle.parsing.specs.Step.{none}
-use Rattle.writer.specs.Writes.{Agree, Written, parsed_content, lengthened}
+use Rattle.parsing.specs.declared.Step.{Step}
+use Rattle.writer.specs.Writes.{Agree, Writes, Written, parsed_content, lengthened}
 use Rattle.parsing.proofs.Parsing.{Parses, step_good, step_bad}
 use Rattle.writer.proofs.Bytes.{content_bad, content_end, front_length, write_whole}
+use Rattle.writer.proofs.write.Goals.{In-Good}
 use Rattle.writer.proofs.write.Goals as goal
 
 -- the run on the bytes of the form's rule set
+ran_on : (form : List ℕ) {before local : List ℕ} {r : Step} → Writes none parsed_content 4 (content (decoded form)) before r local
+    → Written none (parsed_content (bytes_of (decoded form))) (bytes_of (decoded form)) [] r local
+ran_on form w = w.run (bytes_of (decoded form)) [] (drop_bytes_of (decoded form) ∙ sym (append-nil _)) (record { at = λ k l m. absurd (omega arith) })
 
-abbrev form : goal.After-put_content → List ℕ
+-- where it is good
+
+abbrev form : In-Good → List ℕ
 form c = c.args.form.now
 
-abbrev bytes : goal.After-put_content → List ℕ
+abbrev bytes : In-Good → List ℕ
 bytes c = bytes_of (decoded (form c))
 
-abbrev local : goal.After-put_content → List ℕ
-local c = c.put_content.new.1.0
+abbrev local : In-Good → List ℕ
+local c = c.put_content.new.out
 
-ran : (c : goal.After-put_content) → Written none (parsed_content (bytes c)) (bytes c) [] c.put_content.result (local c)
-ran c =
-    c.put_content.ensures.0.run (bytes c) [] (drop_bytes_of (decoded (form c)) ∙ sym (append-nil _)) (record { at = λ k l m. absurd (omega arith) })
+ran : (c : In-Good) → Written none (parsed_content (bytes c)) (bytes c) [] c.put_content.result (local c)
+ran c = ran_on (form c) c.put_content.ensures.0
 
-parsed : (c : goal.In-Good-2) → Parses none (parsed_content (bytes c)) c.end-1.given.0.0 c.end-1.given.0.1.0
-parsed c = step_good none _ _ _ (sym c.end-1.given.1 ∙ (ran c).answer)
+parsed : (c : In-Good) → Parses none (parsed_content (bytes c)) c.in-Good.field-0 c.in-Good.end
+parsed c = step_good none _ _ _ (sym c.in-Good.is ∙ (ran c).answer)
 
-ended : (c : goal.In-Good-2) → (rule_set (bytes c) ≡ good (parsed c).result c.end-1.given.0.1.0) × (c.end-1.given.0.1.0 ≡ length (bytes c))
+ended : (c : In-Good) → (rule_set (bytes c) ≡ good (parsed c).result c.in-Good.end) × (c.in-Good.end ≡ length (bytes c))
 ended c = content_end (form c) (parsed c).result _ (parsed c).parse
 
-bounds : (c : goal.In-Good-2) → (4 ≤ c.end-1.given.0.1.0) × (c.end-1.given.0.1.0 ≤ 9096)
+bounds : (c : In-Good) → (4 ≤ c.in-Good.end) × (c.in-Good.end ≤ 9096)
 bounds c =
     let e = (ended c).1 in
     let l = bytes_of_length (decoded (form c)) in
-    let m = c.put_content.ensures.1.most _ _ c.end-1.given.1 in
+    let m = c.put_content.ensures.1.most _ _ c.in-Good.is in
     (omega arith, omega arith)
 
-stored : (c : goal.In-Good-2) → Agree (bytes c) c.end-1.given.0.1.0 (local c)
+stored : (c : In-Good) → Agree (bytes c) c.in-Good.end (local c)
 stored c = (ran c).stored (parsed c).result _ (parsed c).parse
 
-local-length : (c : goal.After-put_content) → length (local c) ≡ 9096
-local-length c = c.put_content.auto.1.0
+local-length : (c : In-Good) → length (local c) ≡ 9096
+local-length c = c.put_content.auto.out
 
 -- past the length
-module _ (c : goal.After-put_length) where
-  abbrev end : ℕ
-  end = c.end-1.given.0.1.0
-
-  abbrev whole : List ℕ
-  whole = c.put_length.new.1.0
-
-  whole_is : whole ≡ lengthened (local c) (end - 4)
-  whole_is = c.put_length.ensures
-
-  wide : length whole ≡ 9096
-  wide = c.put_length.auto.1.0 ∙ local-length c
-
-  front : length (take end whole) ≡ end
+module _ (c : In-Good) (whole : List ℕ) (whole_is : whole ≡ lengthened (local c) (c.in-Good.end - 4)) where
+  front : length (take c.in-Good.end whole) ≡ c.in-Good.end
   front =
-      ap (λ (xs : List ℕ). length (take end xs)) whole_is
-      ∙ front_length (form c) (local c) end (stored c) (local-length c) (bounds c).1 (ended c).1
-
-  front-all : take (length (take end whole)) (take end whole) ≡ take end whole
-  front-all = take_all (length (take end whole)) (take end whole) (omega arith)
+      ap (λ (xs : List ℕ). length (take c.in-Good.end xs)) whole_is
+      ∙ front_length (form c) (local c) c.in-Good.end (stored c) (local-length c) (bounds c).1 (ended c).1
 
 pub returns-then-out-end : goal.returns-then-out-end
-returns-then-out-end c = let h = ended c in writing_short _ _ _ _ h.0 (let e = h.1 in omega arith)
+returns-then-out-end c = let h = ended (goal.at.returns-then-out-end c).In-Good in writing_short _ _ _ _ h.0 (let e = h.1 in omega arith)
 
 pub put_length-requires : goal.put_length-requires
-put_length-requires c = let h = bounds c in let l = local-length c in (h.0, h.1, omega arith)
+put_length-requires c =
+    let good = (goal.at.put_length-requires c).In-Good in
+    let h = bounds good in
+    let l = local-length good in
+    (h.0, h.1, omega arith)
 
 pub slice_bounds-local-end : goal.slice_bounds-local-end
-slice_bounds-local-end c = let h = bounds c in let l = wide c in omega arith
+slice_bounds-local-end c =
+    let good = (goal.at.slice_bounds-local-end c).In-Good in
+    let h = bounds good in
+    let l = c.put_length.auto.out ∙ local-length good in
+    omega arith
 
-pub slice-aggregate-copy : goal.slice-aggregate-copy
-slice-aggregate-copy c = sym (front c)
+pub slice_bounds-copy_from_slice-end-in-Good : goal.slice_bounds-copy_from_slice-end-in-Good
+slice_bounds-copy_from_slice-end-in-Good c = sym (length-take-le _ _ c.if-out-end.false)
 
-pub copy-requires : goal.copy-requires
-copy-requires c = let l = front c in let h = c.if-out-end.false in omega arith
+pub slice_bounds-copy_from_slice-end-in-Good-2 : goal.slice_bounds-copy_from_slice-end-in-Good-2
+slice_bounds-copy_from_slice-end-in-Good-2 c = sym (front (goal.at.slice_bounds-copy_from_slice-end-in-Good-2 c).In-Good _ c.put_length.ensures)
+
+pub copy_from_slice-requires : goal.copy_from_slice-requires
+copy_from_slice-requires c = length-take-le _ _ c.if-out-end.false ∙ sym (front (goal.at.copy_from_slice-requires c).In-Good _ c.put_length.ensures)
 
 pub returns-else-out-end : goal.returns-else-out-end
 returns-else-out-end c =
-    write_whole (form c) (local c) _ (stored c) (local-length c) (bounds c).1 (ended c).1 (parsed c).result _ _ (ended c).0 c.if-out-end.false
-    (subst (λ (xs : List ℕ). c.copy.new.1.0 ≡ take (end c) xs ++ drop (length (take (end c) xs)) c.args.out.now) (whole_is c) (rw (front-all c) at c.copy.ensures.1))
+    let good = (goal.at.returns-else-out-end c).In-Good in
+    let end = c.in-Good.end in
+    let copied : c.copy_from_slice.new.self ≡ take end (lengthened (local good) (end - 4)) = c.copy_from_slice.ensures.after ∙ ap (take end) c.put_length.ensures in
+    let l : length (take end (lengthened (local good) (end - 4))) ≡ end = front good _ refl in
+    write_whole (form good) (local good) _ (stored good) (local-length good) (bounds good).1 (ended good).1 (parsed good).result _ _ (ended good).0 c.if-out-end.false cc
 
 pub returns-in-Bad : goal.returns-in-Bad
-returns-in-Bad c = writing_bad _ _ _ _ (content_bad (form c) _ _ (step_bad none _ _ _ (sym c.refusal.given.1 ∙ (ran c).answer)))
+returns-in-Bad c =
+    writing_bad _ _ _ _ (content_bad c.args.form.now _ _ (step_bad none _ _ _ (sym c.in-Bad.is ∙ (ran_on c.args.form.now c.put_content.ensures.0).answer)))
