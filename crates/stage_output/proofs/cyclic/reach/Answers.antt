@@ -1,7 +1,7 @@
 -- `stage_output::cyclic::reach` meets its contract. The loop's invariant: the first `j` arguments are below what is reached, and that is no more than
 -- they ask for. Assumes nothing.
 use mathlib.Core.Path.{◌≡◌, refl}
-use Prim.Native.Nat.{ℕ, ◌+◌, ◌-◌, ◌<◌}
+use Prim.Native.Nat.{ℕ, ◌+◌, ◌<◌}
 use native.Mathlib.Omega.{arith}
 use borrow.Author.Count.{below_more}
 use lib.ListN.{get_or}
