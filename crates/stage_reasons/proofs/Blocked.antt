@@ -1,7 +1,7 @@
 -- A trigger that is blocked with ⋆ outside the variables of a disjunct, or outside the frontier. Assumes nothing.
 use mathlib.Core.Path.{◌≡◌, refl, ap, ◌∙◌}
 use mathlib.Core.Bool.{true, false}
-use mathlib.Core.List.{List, Memᴰ}
+use mathlib.Core.List.{List}
 use Prim.Native.Nat.{ℕ}
 use Rattle.model.specs.Lists.{all}
 use Rattle.model.specs.Rules.{Rule, frontier, existential_free, entries}

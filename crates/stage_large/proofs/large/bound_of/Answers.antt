@@ -1,7 +1,7 @@
 -- `stage_large::large::bound_of` meets its contract. The loop's invariant: the sum and the bounds of the arguments that are left make what is asked
 -- for. Assumes nothing.
 use mathlib.Core.Path.{refl}
-use Prim.Native.Nat.{ℕ, ◌-◌}
+use Prim.Native.Nat.{ℕ}
 use native.Mathlib.Omega.{arith}
 use lib.ListN.{get_or}
 use Rattle.tables.specs.Terms.{argument_of}
@@ -33,19 +33,19 @@ pub overflow_cast-sum-in-loop-j : goal.overflow_cast-sum-in-loop-j
 overflow_cast-sum-in-loop-j c =
     let l = c in
     let a = l.args in
-    omega (arith, c.shared_slice_known-in-loop-j-2-1.given (argument_of a.terms.now a.i l.loop-j.j))
+    omega (arith, c.type_inv.bounds (argument_of a.terms.now a.i l.loop-j.j))
 
 pub overflow_add-sum-in-loop-j-2 : goal.overflow_add-sum-in-loop-j-2
 overflow_add-sum-in-loop-j-2 c =
     let l = c in
     let a = l.args in
-    omega (arith, c.shared_slice_known-in-loop-j-2-1.given (argument_of a.terms.now a.i l.loop-j.j))
+    omega (arith, c.type_inv.bounds (argument_of a.terms.now a.i l.loop-j.j))
 
 pub loop-j-preserved : goal.loop-j-preserved
 loop-j-preserved c =
     let l = c in
     let a = l.args in
-    let g = c.shared_slice_known-in-loop-j-2-1.given (argument_of a.terms.now a.i l.loop-j.j) in
+    let g = c.type_inv.bounds (argument_of a.terms.now a.i l.loop-j.j) in
     let e = bounds_more (λ (x : ℕ). get_or a.bounds.now x 0) a.terms.now a.i l.loop-j.j (omega arith) in
     (l.loop-j.invariant.0, omega arith, omega (arith, g), omega (arith, e, l.loop-j.invariant.3))
 

@@ -1,13 +1,13 @@
 -- `stage_large::large::greatest` meets its contract. The loop's invariant: the terms so far are measured, and the greatest size is known.
 -- Assumes nothing.
 use mathlib.Core.Path.{◌≡◌, refl, sym, ap, ◌∙◌}
-use mathlib.Core.Logic.{⊎_elim}
-use Prim.Native.Nat.{max, ◌-◌, ◌≤◌}
+use Prim.Native.Nat.{max, ◌≤◌}
 use native.Mathlib.Omega.{arith}
 use lib.ListN.{length-set}
 use borrow.Author.Tests.{lt-ltb, le-ltb}
 use Rattle.stage_large.specs.Large.{greatest_size, most_size}
 use Rattle.stage_large.proofs.Bounds.{bounds_with}
+use Rattle.stage_large.proofs.large.greatest.Goals.{then-most-bound, else-most-bound}
 use Rattle.stage_large.proofs.large.greatest.Goals as goal
 
 pub returns-then-n-gt-TERM_LIMIT : goal.returns-then-n-gt-TERM_LIMIT
@@ -40,10 +40,10 @@ loop-i-preserved c =
     let e = d.bound_of-bound.ensures in
     let most = c.if-most-bound.most in
     let b : (most ≡ max l.loop-i.most d.bound_of-bound.result) × (most ≤ 65) =
-    ⊎_elim
-    (λ w. (omega (arith, w.0.true, w.1), omega (arith, w.1, e)))
-    (λ w. (omega (arith, w.0.left, w.1), omega (arith, w.1, l.loop-i.invariant.1)))
-    c.if-most-bound.branch in (
+    elim c.if-most-bound.branch [
+      | then-most-bound w ↦ (omega (arith, w.if-most-bound.true, w.most-is), omega (arith, w.most-is, e))
+      | else-most-bound w ↦ (omega (arith, w.if-most-bound.false, w.most-is), omega (arith, w.most-is, l.loop-i.invariant.1))
+    ] in (
       omega arith,
       b.1,
       length-set l.loop-i.bounds l.loop-i.i d.bound_of-bound.result ∙ l.loop-i.invariant.2,

@@ -1,18 +1,18 @@
 -- `stage_large::large::places` meets its contract. The loop's invariant: up to 65 the sum is that of the variables before `v`.
 -- Assumes nothing.
 use mathlib.Core.Path.{◌≡◌, refl, sym, ap, ◌∙◌, subst}
-use mathlib.Core.Logic.{⊎_elim}
-use Prim.Native.Nat.{ℕ, min, ◌-◌}
+use Prim.Native.Nat.{ℕ, min}
 use native.Mathlib.Omega.{arith}
 use lib.ListN.{length}
 use Rattle.stage_large.specs.Large.{Measured}
 use Rattle.stage_large.proofs.Places.{places_before, places_none, places_with, places_without, places_all}
+use Rattle.stage_large.proofs.large.places.Goals.{then-contains, else-contains}
 use Rattle.stage_large.proofs.large.places.Goals as goal
 
 pub loop-v-init : goal.loop-v-init
 loop-v-init c =
     let s = c in
-    (omega arith, omega arith, omega (arith, places_none s.args.terms.now s.args.set s.args.t4), s.requires.2, refl)
+    (omega arith, omega arith, omega (arith, places_none s.args.terms.now s.args.set s.args.assignment), s.requires.2, refl)
 
 pub contains-requires : goal.contains-requires
 contains-requires c = c.loop-v-test.true
@@ -34,7 +34,7 @@ size_of-sum-requires c =
 pub overflow_add-sum : goal.overflow_add-sum
 overflow_add-sum c =
     let l = c in
-    omega (arith, l.loop-v.invariant.0, l.loop-v.invariant.1, c.type_size.ensures.0)
+    omega (arith, l.loop-v.invariant.0, l.loop-v.invariant.1, c.size_of-sum.ensures.0)
 
 pub loop-v-preserved : goal.loop-v-preserved
 loop-v-preserved c =
@@ -42,25 +42,25 @@ loop-v-preserved c =
     let a = l.args in
     let i = l.loop-v.invariant in
     let h = c.loop-v-test.true in
-    ⊎_elim
-    (λ w.
-    let d = w.2 in
-    let e = places_with a.terms.now a.set a.t4 l.loop-v.v h (sym c.contains.ensures ∙ w.0.true) in (
-      omega (arith, h),
-      omega (arith, i.1, d.ensures.0, w.6),
-      omega (arith, i.2, d.ensures.0, e, w.6),
-      subst (Measured a.terms.now) (sym w.5) d.ensures.1,
-      ap length w.5 ∙ d.kept.1.1.1.0 ∙ i.4,
-    ))
-    (λ w.
-    let e = places_without a.terms.now a.set a.t4 l.loop-v.v h (sym c.contains.ensures ∙ w.0.left) in (
-      omega (arith, h),
-      omega (arith, i.1, w.2),
-      omega (arith, i.2, e, w.2),
-      subst (Measured a.terms.now) (sym w.1) i.3,
-      ap length w.1 ∙ i.4,
-    ))
-    c.if-contains.branch
+    elim c.if-contains.branch [
+      | then-contains w ↦
+          let d = w.size_of-sum in
+          let e = places_with a.terms.now a.set a.assignment l.loop-v.v h (sym c.contains.ensures ∙ w.if-contains.true) in (
+            omega (arith, h),
+            omega (arith, i.1, d.ensures.0, w.sum-is),
+            omega (arith, i.2, d.ensures.0, e, w.sum-is),
+            subst (Measured a.terms.now) (sym w.sizes-is) d.ensures.1,
+            ap length w.sizes-is ∙ d.auto.sizes ∙ i.4,
+          )
+      | else-contains w ↦
+          let e = places_without a.terms.now a.set a.assignment l.loop-v.v h (sym c.contains.ensures ∙ w.if-contains.false) in (
+            omega (arith, h),
+            omega (arith, i.1, w.sum-is),
+            omega (arith, i.2, e, w.sum-is),
+            subst (Measured a.terms.now) (sym w.sizes-is) i.3,
+            ap length w.sizes-is ∙ i.4,
+          )
+    ]
 
 pub shape_of-sizes : goal.shape_of-sizes
 shape_of-sizes c = c.loop-v.invariant.4
@@ -70,6 +70,6 @@ returns c =
     let l = c in
     let a = l.args in
     let e : l.loop-v.v ≡ 8 = omega (arith, l.loop-v.invariant.0, c.loop-v-test.false) in (
-      l.loop-v.invariant.2 ∙ ap (λ (v : ℕ). min (places_before a.terms.now a.set a.t4 v) 65) e ∙ ap (λ (k : ℕ). min k 65) (places_all a.terms.now a.set a.t4),
+      l.loop-v.invariant.2 ∙ ap (λ (v : ℕ). min (places_before a.terms.now a.set a.assignment v) 65) e ∙ ap (λ (k : ℕ). min k 65) (places_all a.terms.now a.set a.assignment),
       l.loop-v.invariant.3,
     )

@@ -7,7 +7,7 @@ use Rattle.stage_large.proofs.large.size_of.Goals as goal
 pub overflow_cast-known : goal.overflow_cast-known
 overflow_cast-known c =
     let s = c in
-    omega (arith, c.slice_known-2-1.given s.args.i)
+    omega (arith, c.type_inv.sizes s.args.i)
 
 pub returns-then-known-gt0 : goal.returns-then-known-gt0
 returns-then-known-gt0 c =

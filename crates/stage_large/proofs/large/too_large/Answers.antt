@@ -2,9 +2,8 @@
 -- is blockable, and the sizes were found. A rule that is passed over has no large trigger. Assumes nothing.
 use mathlib.Core.Path.{refl, sym, ap, ◌∙◌, subst}
 use mathlib.Core.Bool.{true}
-use mathlib.Core.Logic.{⊎_elim}
 use mathlib.Core.List.{[]}
-use Prim.Native.Nat.{◌-◌, ◌<◌}
+use Prim.Native.Nat.{◌<◌}
 use native.Mathlib.Omega.{arith}
 use lib.ListN.{length}
 use Rattle.form.specs.Places.{rules_of, rule_of}
@@ -16,6 +15,7 @@ use Rattle.stage_large.proofs.Places.{measured_none}
 use Rattle.stage_large.proofs.Bounds.{most_bounding, bounded_not_large}
 use Rattle.stage_large.proofs.Oversize.{given_large}
 use Rattle.stage_large.proofs.Question.{next_blockable, next_decides}
+use Rattle.stage_large.proofs.large.too_large.Goals.{then-can_be_large+else-any_large, else-can_be_large}
 use Rattle.stage_large.proofs.large.too_large.Goals as goal
 
 pub rule_count-rules-requires : goal.rule_count-rules-requires
@@ -143,35 +143,36 @@ loop-i-preserved c =
     let next = c.next_in_question-i-in-loop-i.ensures in
     let passed = any_passed (large_rule t) (rules_of a.form.now) l.loop-i.i (record { body = []; head = [] }) h in
     let behind = next_decides next a.terms.now s.requires.0.tabled s.requires.1 in
-    ⊎_elim
-    (λ w. (
-      omega (arith, next.within, l.loop-i.invariant.1),
-      l.loop-i.invariant.1,
-      l.loop-i.invariant.2
-          ∙ passed
-          (no_large t (rule_of a.form.now l.loop-i.i)
-          (sym (given_large a.form.now a.terms.now a.counts.terms a.facts.now a.counts.facts a.counts.old a.counts.depth s.requires.0.tabled s.requires.1 l.loop-i.i h w.1.result w.2.result w.3.result w.4.result
-          w.1.ensures w.2.ensures w.3.ensures w.4.ensures (l.loop-i.invariant.3 h))
-          ∙ sym w.6.ensures.0
-          ∙ w.8.left))
-          ∙ behind,
-      next_blockable next,
-      subst (Measured a.terms.now) (sym w.9) w.6.ensures.1,
-      ap length w.9 ∙ w.6.kept.1.1.1.1.1.1.1.1.1.0 ∙ l.loop-i.invariant.5,
-    ))
-    (λ w. (
-      omega (arith, next.within, l.loop-i.invariant.1),
-      l.loop-i.invariant.1,
-      l.loop-i.invariant.2
-          ∙ passed
-          (bounded_not_large a.form.now a.terms.now a.counts.terms a.facts.now a.counts.facts s.requires.0.tabled l.greatest-most.result (most_bounding a.terms.now a.counts.terms l.greatest-most.ensures)
-          (rule_of a.form.now l.loop-i.i) (sym c.can_be_large.ensures ∙ w.0.left))
-          ∙ behind,
-      next_blockable next,
-      subst (Measured a.terms.now) (sym w.1) l.loop-i.invariant.4,
-      ap length w.1 ∙ l.loop-i.invariant.5,
-    ))
-    c.if-can_be_large.branch
+    elim c.if-can_be_large.branch [
+      | then-can_be_large+else-any_large w ↦ (
+        omega (arith, next.within, l.loop-i.invariant.1),
+        l.loop-i.invariant.1,
+        l.loop-i.invariant.2
+            ∙ passed
+            (no_large t (rule_of a.form.now l.loop-i.i)
+            (sym (given_large a.form.now a.terms.now a.counts.terms a.facts.now a.counts.facts a.counts.old a.counts.depth s.requires.0.tabled s.requires.1 l.loop-i.i h w.body-body.result
+            w.body_arities-arities.result w.body_count-atoms.result w.body_set-set.result
+            w.body-body.ensures w.body_arities-arities.ensures w.body_count-atoms.ensures w.body_set-set.ensures (l.loop-i.invariant.3 h))
+            ∙ sym w.any_large.ensures.0
+            ∙ w.if-any_large.false))
+            ∙ behind,
+        next_blockable next,
+        subst (Measured a.terms.now) (sym w.sizes-is) w.any_large.ensures.1,
+        ap length w.sizes-is ∙ w.any_large.auto.sizes ∙ l.loop-i.invariant.5,
+      )
+      | else-can_be_large w ↦ (
+        omega (arith, next.within, l.loop-i.invariant.1),
+        l.loop-i.invariant.1,
+        l.loop-i.invariant.2
+            ∙ passed
+            (bounded_not_large a.form.now a.terms.now a.counts.terms a.facts.now a.counts.facts s.requires.0.tabled l.greatest-most.result (most_bounding a.terms.now a.counts.terms l.greatest-most.ensures)
+            (rule_of a.form.now l.loop-i.i) (sym c.can_be_large.ensures ∙ w.if-can_be_large.false))
+            ∙ behind,
+        next_blockable next,
+        subst (Measured a.terms.now) (sym w.sizes-is) l.loop-i.invariant.4,
+        ap length w.sizes-is ∙ l.loop-i.invariant.5,
+      )
+    ]
 
 pub returns : goal.returns
 returns c =

@@ -12,7 +12,7 @@ raise_arguments-requires c =
     let s = c in
     let h = s.requires.1 in
     let few = s.requires.0.few in
-    (omega arith, h.few, λ j l. omega (arith, argument_first s.args.t3 j, h.within j l))
+    (omega arith, h.few, λ j l. omega (arith, argument_first s.args.row j, h.within j l))
 
 pub nests_in_marked-requires : goal.nests_in_marked-requires
 nests_in_marked-requires c =
@@ -31,7 +31,7 @@ returns c =
     let a = s.args in
     let h = r.ensures.1 a.ground.terms s.requires.1 in
     let few = s.requires.0.few in
-    let long : length a.t3 ≡ 10 = search rules in
+    let long : length a.row ≡ 10 = search rules in
     found.ensures.0
-    ∙ ap (nests_marked a.terms.now (get_or a.t3 0 0) a.ground.depth r.result) marks.ensures
+    ∙ ap (nests_marked a.terms.now (get_or a.row 0 0) a.ground.depth r.result) marks.ensures
     ∙ sym (cyclic_marked s.requires.0 h long r.ensures.0 (replicate 512 0) (omega arith) (λ x l. get_or-replicate 512 x 0 0 (omega arith)))

@@ -1,7 +1,7 @@
 -- `stage_output::cyclic::reach` meets its contract. The loop's invariant: the first `j` arguments are below what is reached, and that is no more than
 -- they ask for. Assumes nothing.
 use mathlib.Core.Path.{◌≡◌, refl}
-use Prim.Native.Nat.{ℕ, ◌+◌, ◌-◌, ◌<◌}
+use Prim.Native.Nat.{ℕ, ◌+◌, ◌<◌}
 use native.Mathlib.Omega.{arith}
 use borrow.Author.Count.{below_more}
 use lib.ListN.{get_or}
@@ -15,10 +15,10 @@ loop-j-preserved c =
     let f = c.farther-reached in
     let l = c in
     let a = l.args in
-    let h : l.loop-j.j < get_or a.t1 1 0 = omega arith in (
+    let h : l.loop-j.j < get_or a.row 1 0 = omega arith in (
       l.loop-j.invariant.0,
       omega arith,
-      below_more (λ (k : ℕ). get_or a.t1 (k + 2) 0 < f.result) l.loop-j.j (λ k m. omega (arith, l.loop-j.invariant.2 k m, f.ensures.0)) f.ensures.1,
+      below_more (λ (k : ℕ). get_or a.row (k + 2) 0 < f.result) l.loop-j.j (λ k m. omega (arith, l.loop-j.invariant.2 k m, f.ensures.0)) f.ensures.1,
       λ n m. f.ensures.2 n (l.loop-j.invariant.3 n m) (m.within l.loop-j.j h),
     )
 
@@ -26,5 +26,5 @@ pub returns : goal.returns
 returns c =
     let l = c in
     let a = l.args in
-    let e : l.loop-j.j ≡ get_or a.t1 1 0 = omega arith in
+    let e : l.loop-j.j ≡ get_or a.row 1 0 = omega arith in
     (record { few = l.requires; within = λ j h. l.loop-j.invariant.2 j (omega arith) }, l.loop-j.invariant.3)

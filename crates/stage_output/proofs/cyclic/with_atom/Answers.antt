@@ -2,7 +2,7 @@
 -- tested last makes no difference. Assumes nothing.
 use mathlib.Core.Path.{◌≡◌, sym, ap, ◌∙◌}
 use mathlib.Core.List.{List}
-use Prim.Native.Nat.{ℕ, ◌+◌, ◌-◌}
+use Prim.Native.Nat.{ℕ, ◌+◌}
 use native.Mathlib.Omega.{arith}
 use lib.ListN.{get_or}
 use Rattle.model.specs.Lists.{numbers_from}
@@ -18,7 +18,7 @@ loop-p-init c =
     let g = ground_in a.ground a.terms.now in (
       omega arith,
       record {
-        first = sym (ap (first_cyclic g (cyclic_of a.before.cyclic)) (rows_with_none a.t3 a.template a.t1) ∙ first_none g (cyclic_of a.before.cyclic));
+        first = sym (ap (first_cyclic g (cyclic_of a.before.cyclic)) (rows_with_none a.functions a.template a.atom) ∙ first_none g (cyclic_of a.before.cyclic));
         unchanging = s.requires.1.unchanging;
       },
     )
@@ -43,14 +43,14 @@ loop-p-preserved c =
     let l = c in
     let a = l.args in
     let g = ground_in a.ground a.terms.now in
-    let f = get_or a.t3 (get_or a.t1 (l.loop-p.p + 1) 0) 0 in
-    let seen = rows_with a.t3 a.template (numbers_from a.t1 1 l.loop-p.p) in (
+    let f = get_or a.functions (get_or a.atom (l.loop-p.p + 1) 0) 0 in
+    let seen = rows_with a.functions a.template (numbers_from a.atom 1 l.loop-p.p) in (
       omega arith,
       record {
         first = w.first
             ∙ ap (λ (ls : List (List ℕ)). first_cyclic g ls (row_with f a.template)) l.loop-p.invariant.1.first
             ∙ sym (first_append g (cyclic_of a.before.cyclic) seen (row_with f a.template))
-            ∙ ap (first_cyclic g (cyclic_of a.before.cyclic)) (sym (rows_with_more a.t3 a.template a.t1 l.loop-p.p));
+            ∙ ap (first_cyclic g (cyclic_of a.before.cyclic)) (sym (rows_with_more a.functions a.template a.atom l.loop-p.p));
         unchanging = w.unchanging;
       },
     )
@@ -62,6 +62,6 @@ returns c =
     let e : l.loop-p.p ≡ a.arity = omega arith in
     record {
       first = l.loop-p.invariant.1.first
-          ∙ ap (λ (k : ℕ). first_cyclic (ground_in a.ground a.terms.now) (cyclic_of a.before.cyclic) (rows_with a.t3 a.template (numbers_from a.t1 1 k))) e;
+          ∙ ap (λ (k : ℕ). first_cyclic (ground_in a.ground a.terms.now) (cyclic_of a.before.cyclic) (rows_with a.functions a.template (numbers_from a.atom 1 k))) e;
       unchanging = l.loop-p.invariant.1.unchanging;
     }

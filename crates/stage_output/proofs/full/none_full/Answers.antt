@@ -2,10 +2,9 @@
 -- Assumes nothing.
 use mathlib.Core.Path.{◌≡◌, sym, ◌∙◌}
 use mathlib.Core.Bool.{true}
-use Prim.Native.Nat.{ℕ, ◌-◌, ◌<◌}
+use Prim.Native.Nat.{ℕ, ◌<◌}
 use native.Mathlib.Omega.{arith}
 use borrow.Author.Count.{below_more}
-use borrow.Author.Tests.{not-true, not-false}
 use lib.ListN.{length}
 use Rattle.model.specs.Lists.{all}
 use Rattle.laws_skipping.specs.Full.{none_full_of, functions_of}
@@ -31,7 +30,7 @@ returns-then-not-none_full_at c =
     let a = s.args in
     let f = c.none_full_at in
     let w : l.loop-d.d < length (rule_of a.form.now a.i).head = omega (arith, l.disjunct_count-count.ensures, c.loop-d-test.true) in
-    sym (rule_some a.form.now a.i s.requires.0.there (ground_in a.left a.terms.now) l.loop-d.d w (sym f.ensures ∙ not-true f.result c.if-not-none_full_at.true))
+    sym (rule_some a.form.now a.i s.requires.0.there (ground_in a.left a.terms.now) l.loop-d.d w (sym f.ensures ∙ c.if-not-none_full_at.true))
 
 pub loop-d-preserved : goal.loop-d-preserved
 loop-d-preserved c =
@@ -39,7 +38,7 @@ loop-d-preserved c =
     let a = l.args in
     let f = c.none_full_at in
     let g = ground_in a.left a.terms.now in
-    below_more (λ (x : ℕ). all (none_full_of g) (functions_of (numbered_of a.form.now a.i x)) ≡ true) l.loop-d.d l.loop-d.invariant (sym f.ensures ∙ not-false f.result c.if-not-none_full_at.false)
+    below_more (λ (x : ℕ). all (none_full_of g) (functions_of (numbered_of a.form.now a.i x)) ≡ true) l.loop-d.d l.loop-d.invariant (sym f.ensures ∙ c.if-not-none_full_at.false)
 
 pub returns : goal.returns
 returns c =

@@ -2,10 +2,9 @@
 -- Assumes nothing.
 use mathlib.Core.Path.{◌≡◌, sym, ap, ◌∙◌}
 use mathlib.Core.Bool.{true}
-use Prim.Native.Nat.{ℕ, suc, ◌+◌, ◌-◌}
+use Prim.Native.Nat.{ℕ, suc, ◌+◌}
 use native.Mathlib.Omega.{arith}
 use borrow.Author.Count.{below_more}
-use borrow.Author.Tests.{not-true, not-false}
 use Rattle.laws_skipping.specs.Full.{none_full_of}
 use Rattle.stage_output.specs.Cyclic.{ground_in}
 use Rattle.stage_output.proofs.FullTerms.{all_numbers, not_numbers}
@@ -21,7 +20,7 @@ returns-then-not-none_full_of c =
     let r = c.none_full_of in
     let e : suc a.before + l.loop-k.k ≡ a.before + 1 + l.loop-k.k = omega arith in
     let p = none_full_of (ground_in a.left a.terms.now) in
-    sym (not_numbers p (suc a.before) a.count l.loop-k.k c.loop-k-test.true (ap p e ∙ sym r.ensures ∙ not-true r.result c.if-not-none_full_of.true))
+    sym (not_numbers p (suc a.before) a.count l.loop-k.k c.loop-k-test.true (ap p e ∙ sym r.ensures ∙ c.if-not-none_full_of.true))
 
 pub loop-k-preserved : goal.loop-k-preserved
 loop-k-preserved c =
@@ -30,7 +29,7 @@ loop-k-preserved c =
     let r = c.none_full_of in
     let e : suc a.before + l.loop-k.k ≡ a.before + 1 + l.loop-k.k = omega arith in
     let p = none_full_of (ground_in a.left a.terms.now) in
-    below_more (λ (x : ℕ). p (suc a.before + x) ≡ true) l.loop-k.k l.loop-k.invariant (ap p e ∙ sym r.ensures ∙ not-false r.result c.if-not-none_full_of.false)
+    below_more (λ (x : ℕ). p (suc a.before + x) ≡ true) l.loop-k.k l.loop-k.invariant (ap p e ∙ sym r.ensures ∙ c.if-not-none_full_of.false)
 
 pub returns : goal.returns
 returns c =

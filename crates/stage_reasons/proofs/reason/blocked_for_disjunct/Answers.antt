@@ -1,7 +1,6 @@
 -- `stage_reasons::reason::blocked_for_disjunct` meets its contract: one disjunct after the other. Assumes nothing.
 use mathlib.Core.Path.{refl, sym, ◌∙◌}
 use mathlib.Core.Bool.{false}
-use Prim.Native.Nat.{◌-◌}
 use native.Mathlib.Omega.{arith}
 use Rattle.laws.proofs.Bools.{not_both}
 use Rattle.tables.specs.Rows.{rows}
