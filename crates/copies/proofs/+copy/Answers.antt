@@ -42,13 +42,6 @@ overflow_sub-row t c =
     let k : c.loop-j.j < copied_arity c.args.terms.now c.args.i = omega arith in
     (copied_number c.requires.0 c.args.i c.requires.1 c.loop-j.invariant.3 c.requires.2.room k c.copy-m.result c.copy-m.new.table (rw c.argument.ensures at c.copy-m.ensures.rows)).0
 
-pub overflow_cast-row : goal.overflow_cast-row
-overflow_cast-row t c =
-    let e = c.loop-j.invariant.0 in
-    let k : c.loop-j.j < copied_arity c.args.terms.now c.args.i = omega arith in
-    let b = copied_number c.requires.0 c.args.i c.requires.1 c.loop-j.invariant.3 c.requires.2.room k c.copy-m.result c.copy-m.new.table (rw c.argument.ensures at c.copy-m.ensures.rows) in
-    omega arith
-
 pub bounds-row-j : goal.bounds-row-j
 bounds-row-j t c = let k = c.loop-j-test.true in omega arith
 
