@@ -18,7 +18,7 @@ pub loop-v-init : goal.loop-v-init
 unfolding rows
 loop-v-init c =
     let a = c.args in
-    (omega arith, refl, refl, ap (λ (d : Copies). d.terms) (sym (chosen_none (rows 10 a.count a.terms.now) a.count a.variables (value_of a.t4))), λ w h. chosen_start (rows 10 a.count a.terms.now) a.count a.variables (value_of a.t4) w h, c.requires.2.kept)
+    (omega arith, refl, refl, ap (λ (d : Copies). d.terms) (sym (chosen_none (rows 10 a.count a.terms.now) a.count a.variables (value_of a.assignment))), λ w h. chosen_start (rows 10 a.count a.terms.now) a.count a.variables (value_of a.assignment) w h, c.requires.2.kept)
 
 pub copy_variable-copied-requires : goal.copy_variable-copied-requires
 copy_variable-copied-requires c =
@@ -26,8 +26,8 @@ copy_variable-copied-requires c =
     let a = s.args in
     let l = c in
     let h : l.loop-v.v < 8 = omega arith in
-    let all = subst (λ (d : Copies). Room 12 a.table.now d.terms) (sym (chosen_all (rows 10 a.count a.terms.now) a.count a.variables (value_of a.t4) (rows_length 10 a.count a.terms.now))) s.requires.2.room in
-    (s.requires.0, h, λ e. s.requires.1 l.loop-v.v h e, record { kept = l.loop-v.invariant.5; room = room_same l.loop-v.table l.loop-v.invariant.1 (chosen_room (rows 10 a.count a.terms.now) a.count a.variables (value_of a.t4) l.loop-v.v h (rows 10 l.loop-v.n l.loop-v.table) l.loop-v.invariant.3 all) })
+    let all = subst (λ (d : Copies). Room 12 a.table.now d.terms) (sym (chosen_all (rows 10 a.count a.terms.now) a.count a.variables (value_of a.assignment) (rows_length 10 a.count a.terms.now))) s.requires.2.room in
+    (s.requires.0, h, λ e. s.requires.1 l.loop-v.v h e, record { kept = l.loop-v.invariant.5; room = room_same l.loop-v.table l.loop-v.invariant.1 (chosen_room (rows 10 a.count a.terms.now) a.count a.variables (value_of a.assignment) l.loop-v.v h (rows 10 l.loop-v.n l.loop-v.table) l.loop-v.invariant.3 all) })
 
 pub loop-v-smaller : goal.loop-v-smaller
 loop-v-smaller c = let t = c.loop-v-test.true in omega arith
@@ -39,10 +39,10 @@ loop-v-preserved c =
     let t = c.loop-v-test.true in
     let d = c.copy_variable-copied in
     let h : l.loop-v.v < 8 = omega arith in
-    let held = d.ensures.0.rows ∙ chosen_held (rows 10 a.count a.terms.now) a.count a.variables (value_of a.t4) l.loop-v.v (rows 10 l.loop-v.n l.loop-v.table) l.loop-v.invariant.3 in
-    let each = chosen_each (rows 10 a.count a.terms.now) a.count a.variables (value_of a.t4) l.loop-v.v h l.loop-v.numbers d.result.count l.loop-v.invariant.2 (sym (rows_length 10 d.result.count d.new.1.1.1.1.1.1.0) ∙ ap length held) l.loop-v.invariant.4 in (
+    let held = d.ensures.0.rows ∙ chosen_held (rows 10 a.count a.terms.now) a.count a.variables (value_of a.assignment) l.loop-v.v (rows 10 l.loop-v.n l.loop-v.table) l.loop-v.invariant.3 in
+    let each = chosen_each (rows 10 a.count a.terms.now) a.count a.variables (value_of a.assignment) l.loop-v.v h l.loop-v.numbers d.result.count l.loop-v.invariant.2 (sym (rows_length 10 d.result.count d.new.table) ∙ ap length held) l.loop-v.invariant.4 in (
       omega arith,
-      d.auto.1.1.1.1.1.1.0 ∙ l.loop-v.invariant.1,
+      d.auto.table ∙ l.loop-v.invariant.1,
       ap length d.ensures.1 ∙ each.0,
       held,
       λ w k. ap (λ (r : List ℕ). get_or r w 0) d.ensures.1 ∙ each.1 w k,
@@ -59,7 +59,7 @@ returns c =
     let e : l.loop-v.v ≡ 8 = omega arith in
     let size = rows_length 10 a.count a.terms.now in
     record {
-      held = l.loop-v.invariant.3 ∙ ap (λ (k : ℕ). (chosen (rows 10 a.count a.terms.now) a.count a.variables (value_of a.t4) k).terms) e ∙ ap (λ (d : Copies). d.terms) (chosen_all (rows 10 a.count a.terms.now) a.count a.variables (value_of a.t4) size);
+      held = l.loop-v.invariant.3 ∙ ap (λ (k : ℕ). (chosen (rows 10 a.count a.terms.now) a.count a.variables (value_of a.assignment) k).terms) e ∙ ap (λ (d : Copies). d.terms) (chosen_all (rows 10 a.count a.terms.now) a.count a.variables (value_of a.assignment) size);
       found = l.loop-v.invariant.5;
-      each = λ w h. l.loop-v.invariant.4 w h ∙ chosen_done (rows 10 a.count a.terms.now) a.count a.variables (value_of a.t4) size l.loop-v.v e w;
+      each = λ w h. l.loop-v.invariant.4 w h ∙ chosen_done (rows 10 a.count a.terms.now) a.count a.variables (value_of a.assignment) size l.loop-v.v e w;
     }

@@ -49,10 +49,10 @@ loop-i-preserved c =
     let h = c.loop-i-test.true in
     let q = l.loop-i.invariant.1 in
     let d = c.append_term in
-    let (kept, fits, few, ten) = append_term-requires c d.lifetimes in
-    let more = term_appended kept fits constant_row ten few d.ensures in (
+    let (fits, few) = constants_room a.n a.table.now a.k l.loop-i.table (room_same l.loop-i.table q s.requires.room) l.loop-i.m l.loop-i.table l.loop-i.i l.loop-i.invariant.2 h in
+    let more = term_appended l.loop-i.invariant.3 fits constant_row refl few d.ensures in (
       omega arith,
-      d.auto.0 ∙ q,
+      d.auto.terms ∙ q,
       rw (add-one l.loop-i.m) (more.0
           ∙ ap (λ (ts : List (List ℕ)). ts ++ (constant_row ∷ [])) l.loop-i.invariant.2
           ∙ constants_more l.loop-i.i (rows 10 a.n a.table.now)),

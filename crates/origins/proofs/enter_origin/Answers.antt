@@ -40,7 +40,7 @@ enter_facts-entered-requires c =
     let b = c in
     let s = b in
     let r = s.requires.0.entry.rule in
-    (rw (b.body-atoms.ensures, b.body_arities-arities.ensures, b.body_count-count.ensures) (atoms_sound r.held (rule_well_formed s.args.form.now r.held s.args.i r.within).body-atoms), s.requires.3.kept)
+    (rw (b.body-atoms.ensures, b.body_arities-arities.ensures, b.body_count-count.ensures) (atoms_sound r.held (rule_well_formed s.args.form.now r.held s.args.i r.within).body), s.requires.3.kept)
 
 pub enter_disjunct-requires : goal.enter_disjunct-requires
 enter_disjunct-requires c =
@@ -56,7 +56,7 @@ enter_disjunct-requires c =
       record {
         room = record {
           kept = k.add_constants-added.ensures.kept;
-          room = room_same k.add_constants-added.new.0 k.add_constants-added.auto.0 (subst (λ (x : Rows). Room 12 a.table.now x.terms) (sym entered) s.requires.3.room.room);
+          room = room_same k.add_constants-added.new.table k.add_constants-added.auto.table (subst (λ (x : Rows). Room 12 a.table.now x.terms) (sym entered) s.requires.3.room.room);
         };
         kept = f.enter_facts-entered.ensures.1;
       },

@@ -69,10 +69,10 @@ loop-j-preserved c =
     let there = stays_row l.loop-j.invariant.4 l.loop-j.j k in (
       omega arith,
       d.ensures.kept,
-      d.auto.1.1.1.0 ∙ l.loop-j.invariant.2,
-      d.auto.1.1.1.1.1.0 ∙ l.loop-j.invariant.3,
-      stays_more l.loop-j.invariant.4 a.limit (disjuncts_in a.form.now) (row 10 l.loop-j.j l.loop-j.table) (held l.loop-j.table l.loop-j.a l.loop-j.facts l.loop-j.b) refl d.new.1.1.1.0 d.result.terms (ap (λ (r : Rows). r.terms) d.ensures.rows),
-      origins_more a.limit (disjuncts_in a.form.now) (rows 10 a.n a.table.now) l.loop-j.j k (held l.loop-j.table l.loop-j.a l.loop-j.facts l.loop-j.b) (held d.new.1.1.1.0 d.result.terms d.new.1.1.1.1.1.0 d.result.facts) (d.ensures.rows ∙ ap (λ (r : List ℕ). cut a.limit (origin_step (disjuncts_in a.form.now) r (held l.loop-j.table l.loop-j.a l.loop-j.facts l.loop-j.b))) there.0)
+      d.auto.table ∙ l.loop-j.invariant.2,
+      d.auto.facts ∙ l.loop-j.invariant.3,
+      stays_more l.loop-j.invariant.4 a.limit (disjuncts_in a.form.now) (row 10 l.loop-j.j l.loop-j.table) (held l.loop-j.table l.loop-j.a l.loop-j.facts l.loop-j.b) refl d.new.table d.result.terms (ap (λ (r : Rows). r.terms) d.ensures.rows),
+      origins_more a.limit (disjuncts_in a.form.now) (rows 10 a.n a.table.now) l.loop-j.j k (held l.loop-j.table l.loop-j.a l.loop-j.facts l.loop-j.b) (held d.new.table d.result.terms d.new.facts d.result.facts) (d.ensures.rows ∙ ap (λ (r : List ℕ). cut a.limit (origin_step (disjuncts_in a.form.now) r (held l.loop-j.table l.loop-j.a l.loop-j.facts l.loop-j.b))) there.0)
           ∙ l.loop-j.invariant.5,
       d.ensures.found,
     )

@@ -1,11 +1,6 @@
 -- `origins::origin_argument` meets its contract: the arguments of a term stand in its row. Assumes nothing.
-use Prim.Native.Nat.{◌+◌, ◌*◌}
-use native.Mathlib.Omega.{arith}
 use Rattle.origins.proofs.Template.{argument_within, argument_missing}
 use Rattle.origins.proofs.origin_argument.Goals as goal
-
-pub overflow_cast-table : goal.overflow_cast-table
-overflow_cast-table c = let s = c in omega (arith, c.shared_slice_known-1.given (s.args.j * 10 + 1))
 
 pub returns-then-k-table : goal.returns-then-k-table
 returns-then-k-table c = let s = c in argument_within s.args.table.now s.args.j s.args.k s.requires.1 c.if-k-table.true

@@ -1,6 +1,5 @@
 -- `outputs::skolem::functions` meets its contract. The loop's invariant: the variables passed have their functions. Assumes nothing.
 use mathlib.Core.Path.{sym, ◌∙◌, subst₂}
-use mathlib.Core.Logic.{⊎_elim}
 use mathlib.Core.List.{List}
 use Prim.Native.Nat.{ℕ, ◌+◌, ◌-◌}
 use native.Mathlib.Omega.{arith}
@@ -8,7 +7,7 @@ use Rattle.outputs.proofs.Variables.{below_length, Counted, counted_none, counte
 use Rattle.outputs.proofs.skolem.functions.Goals as goal
 
 pub loop-v-init : goal.loop-v-init
-loop-v-init c = (omega arith, counted_none c.args.existential c.args)
+loop-v-init c = (omega arith, counted_none c.args.existential c.args.before)
 
 pub overflow_add-last : goal.overflow_add-last
 overflow_add-last c =
@@ -16,7 +15,7 @@ overflow_add-last c =
     let s = l in
     let few = s.requires in
     let b = below_length s.args.existential l.loop-v.v in
-    record { fits = omega (arith, l.loop-v.invariant.1.up_to_lem) }
+    record { fits = omega (arith, l.loop-v.invariant.1.up_to) }
 
 pub loop-v-preserved : goal.loop-v-preserved
 loop-v-preserved c =
@@ -25,11 +24,12 @@ loop-v-preserved c =
     let told = c.contains.ensures in
     let inv = l.loop-v.invariant.1 in (
       omega arith,
-      ⊎_elim
-          (λ w. subst₂ (λ (xs : List ℕ) (n : ℕ). Counted a.existential a.before xs n (l.loop-v.v + 1)) (sym w.1) (sym w.2)
-          (counted_yes a.existential a.before l.loop-v.numbers l.loop-v.last l.loop-v.v inv (omega arith) (sym told ∙ w.0.true)))
-          (λ w. subst₂ (λ (xs : List ℕ) (n : ℕ). Counted a.existential a.before xs n (l.loop-v.v + 1)) (sym w.1) (sym w.2)
-          (counted_no a.existential a.before l.loop-v.numbers l.loop-v.last l.loop-v.v inv (sym told ∙ w.0.left))) c.if-contains.branch,
+      elim c.if-contains.branch [
+        | goal.then-contains w ↦ subst₂ (λ (xs : List ℕ) (n : ℕ). Counted a.existential a.before xs n (l.loop-v.v + 1)) (sym w.numbers-is) (sym w.last-is)
+            (counted_yes a.existential a.before l.loop-v.numbers l.loop-v.last l.loop-v.v inv (omega arith) (sym told ∙ w.if-contains.true))
+        | goal.else-contains w ↦ subst₂ (λ (xs : List ℕ) (n : ℕ). Counted a.existential a.before xs n (l.loop-v.v + 1)) (sym w.numbers-is) (sym w.last-is)
+            (counted_no a.existential a.before l.loop-v.numbers l.loop-v.last l.loop-v.v inv (sym told ∙ w.if-contains.false))
+      ],
     )
 
 pub returns : goal.returns

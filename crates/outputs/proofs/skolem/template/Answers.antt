@@ -1,7 +1,6 @@
 -- `outputs::skolem::template` meets its contract. The loop's invariant: the row has the numbers of the variables passed, and the next one's place
 -- is behind them. Assumes nothing.
 use mathlib.Core.Path.{◌≡◌, sym, ap, ap₂, ◌∙◌}
-use mathlib.Core.Logic.{⊎_elim}
 use mathlib.Core.List.{List}
 use Prim.Native.Nat.{ℕ, ◌-◌}
 use native.Mathlib.Omega.{arith}
@@ -19,7 +18,7 @@ overflow_cast-row c =
 pub loop-v-init : goal.loop-v-init
 loop-v-init c =
     let a = c.args in
-    (omega arith, rw c.set_size.ensures (filled_up_none a.frontier (value_of a.t2)), let e = ap length (below_none a.frontier) in omega arith)
+    (omega arith, rw c.set_size.ensures (filled_up_none a.frontier (value_of a.numbers)), let e = ap length (below_none a.frontier) in omega arith)
 
 pub bounds-row-place : goal.bounds-row-place
 bounds-row-place c =
@@ -31,16 +30,18 @@ pub loop-v-preserved : goal.loop-v-preserved
 loop-v-preserved c =
     let l = c in
     let a = l.args in
-    let α : ℕ → ℕ = value_of a.t2 in
+    let α : ℕ → ℕ = value_of a.numbers in
     let told = c.contains.ensures in
     let (h, row, place) = l.loop-v.invariant in (
       omega arith,
-      ⊎_elim
-          (λ w. w.1 ∙ ap₂ (λ (xs : List ℕ) (p : ℕ). set xs p (α l.loop-v.v)) row place ∙ filled_up_more a.frontier α l.loop-v.v (omega arith) (sym told ∙ w.0.true))
-          (λ w. w.1 ∙ row ∙ filled_up_same a.frontier α l.loop-v.v (sym told ∙ w.0.left)) c.if-contains.branch,
-      ⊎_elim
-          (λ w. omega (arith, w.2, place, below_one a.frontier l.loop-v.v (sym told ∙ w.0.true)))
-          (λ w. omega (arith, w.2, place, below_same a.frontier l.loop-v.v (sym told ∙ w.0.left))) c.if-contains.branch,
+      elim c.if-contains.branch [
+        | goal.then-contains w ↦ w.row-is ∙ ap₂ (λ (xs : List ℕ) (p : ℕ). set xs p (α l.loop-v.v)) row place ∙ filled_up_more a.frontier α l.loop-v.v (omega arith) (sym told ∙ w.if-contains.true)
+        | goal.else-contains w ↦ w.row-is ∙ row ∙ filled_up_same a.frontier α l.loop-v.v (sym told ∙ w.if-contains.false)
+      ],
+      elim c.if-contains.branch [
+        | goal.then-contains w ↦ omega (arith, w.place-is, place, below_one a.frontier l.loop-v.v (sym told ∙ w.if-contains.true))
+        | goal.else-contains w ↦ omega (arith, w.place-is, place, below_same a.frontier l.loop-v.v (sym told ∙ w.if-contains.false))
+      ],
     )
 
 pub returns : goal.returns
@@ -48,13 +49,13 @@ returns c =
     let l = c in
     let a = c.args in
     let e : l.loop-v.v ≡ 8 = omega arith in
-    l.loop-v.invariant.1 ∙ ap (filled_up a.frontier (value_of a.t2)) e ∙ filled_up_all a.frontier (value_of a.t2)
+    l.loop-v.invariant.1 ∙ ap (filled_up a.frontier (value_of a.numbers)) e ∙ filled_up_all a.frontier (value_of a.numbers)
 
 pub set_size-requires : goal.set_size-requires
 set_size-requires c = tt
 
 pub offset_bounds-row-place : goal.offset_bounds-row-place
-offset_bounds-row-place c = omega (arith, bounds-row-place c)
+offset_bounds-row-place c = let b = below_length c.args.frontier c.loop-v.v in omega (arith, c.loop-v.invariant.2)
 
 pub overflow_add-place : goal.overflow_add-place
-overflow_add-place c = omega (arith, bounds-row-place c)
+overflow_add-place c = let b = below_length c.args.frontier c.loop-v.v in omega (arith, c.loop-v.invariant.2)
