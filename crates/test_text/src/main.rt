@@ -7,7 +7,8 @@ ghost use Rattle.judging.specs.Verdict.{meant};
 ghost use Rattle.text.specs.Legible.{Legible};
 
 use judging::verdict::Verdict;
-use libc::STDOUT_FILENO;
+use std::io;
+use std::io::Print;
 
 // Numbers of four and five digits, for a table and for an answer.
 const FOUR_DIGITS: u16 = 9999;
@@ -20,26 +21,32 @@ const STAGE: usize = 1000;
 
 const INPUT_LIMIT: usize = 9097;
 
-fn show(verdict: Verdict, arities: &[u16], terms: &[u16], facts: &[u16])
+fn show(
+    rt: &HostRuntime,
+    verdict: Verdict,
+    arities: &[u16],
+    terms: &[u16],
+    facts: &[u16],
+) -> io::Result<()>
     requires { Legible arities.now verdict terms.now facts.now × (length (text arities.now (meant verdict) terms.now facts.now) ≤ 256) }
 {
     let mut out = [0u8; 256];
     let n = text::write_text(verdict, arities, terms, facts, &mut out);
-    io::write_all(STDOUT_FILENO, &out[..n]);
+    rt.write_all(&out[..n])
 }
 
 // River of document 01.
-fn river() {
+fn river(rt: &HostRuntime) -> io::Result<()> {
     let arities = [1, 2, 1];
     let terms = [0, 0, 0, 0, 0, 0, 0, 0, 0, 0, 1, 1, 0, 0, 0, 0, 0, 0, 0, 0];
     let facts = [
         0, 0, 0, 0, 0, 1, 0, 0, 0, 0, 2, 0, 0, 0, 0, 1, 0, 1, 0, 0, 2, 1, 0, 0, 0,
     ];
-    show(Verdict::Accepted(2, 5, 2), &arities, &terms, &facts);
+    show(rt, Verdict::Accepted(2, 5, 2), &arities, &terms, &facts)
 }
 
 // A cyclic answer with the longest records, and numbers of every length.
-fn widest() {
+fn widest(rt: &HostRuntime) -> io::Result<()> {
     let arities = [4, 1];
     let terms = [
         0,
@@ -64,18 +71,18 @@ fn widest() {
         LARGEST,
     ];
     let facts = [0, 0, 9, 10, LARGEST, 1, 511, 0, 0, 0];
-    show(Verdict::Cyclic(STAGE, 2, 1), &arities, &terms, &facts);
+    show(rt, Verdict::Cyclic(STAGE, 2, 1), &arities, &terms, &facts)
 }
 
-fn refusals() {
+fn refusals(rt: &HostRuntime) -> io::Result<()> {
     let none = [0];
-    show(Verdict::Refused(1, 0), &none, &none, &none);
-    show(Verdict::Refused(10, INPUT_LIMIT), &none, &none, &none);
-    show(Verdict::Refused(14, usize::MAX), &none, &none, &none);
+    show(rt, Verdict::Refused(1, 0), &none, &none, &none)?;
+    show(rt, Verdict::Refused(10, INPUT_LIMIT), &none, &none, &none)?;
+    show(rt, Verdict::Refused(14, usize::MAX), &none, &none, &none)
 }
 
-fn main() {
-    river();
-    widest();
-    refusals();
+fn main(rt: HostRuntime) -> io::Result<()> {
+    river(&rt)?;
+    widest(&rt)?;
+    refusals(&rt)
 }

@@ -3,8 +3,9 @@
 
 ghost use Rattle.test_triggers.specs.Cases.{Case};
 
-use libc::STDOUT_FILENO;
 use new_triggers::Extent;
+use std::io;
+use std::io::Print;
 
 // Room for the index of a few facts.
 const INDEX_ROOM: usize = 3120;
@@ -14,7 +15,7 @@ fn digit(x: u16) -> u8 {
     b'0' + (x % 10) as u8
 }
 
-fn print_assignment(assignment: [u16; 8]) {
+fn print_assignment(rt: &HostRuntime, assignment: [u16; 8]) -> io::Result<()> {
     let mut line = [b' '; 16];
     let mut i = 0;
     while i < 8 {
@@ -22,17 +23,18 @@ fn print_assignment(assignment: [u16; 8]) {
         i += 1;
     }
     line[15] = b'\n';
-    io::write_all(STDOUT_FILENO, &line);
+    rt.write_all(&line)
 }
 
 fn print_triggers(
+    rt: &HostRuntime,
     body: [[u16; 5]; 4],
     arities: [usize; 4],
     atoms: usize,
     facts: &[u16],
     count: usize,
     terms: u16,
-)
+) -> io::Result<()>
     requires { Case (record { atoms = body; arities = arities; count = atoms }) facts.now count terms }
 {
     let mut index = [0u16; INDEX_ROOM];
@@ -68,44 +70,44 @@ fn print_triggers(
             &index,
         );
         if !step.found {
-            return;
+            return Ok(());
         }
         let trigger = step.trigger;
-        print_assignment(trigger);
+        print_assignment(rt, trigger)?;
     }
 }
 
 // One atom with a repeated variable: P(x,x) over P(0,0), P(0,1), P(1,1), P(2,0).
-fn repeated_variable() {
-    io::write_all(STDOUT_FILENO, b"P(x,x)\n");
+fn repeated_variable(rt: &HostRuntime) -> io::Result<()> {
+    rt.write_all(b"P(x,x)\n")?;
     let body = [[0, 0, 0, 0, 0], [0; 5], [0; 5], [0; 5]];
     let facts = [0, 0, 0, 0, 0, 0, 0, 1, 0, 0, 0, 1, 1, 0, 0, 0, 2, 0, 0, 0];
-    print_triggers(body, [2, 0, 0, 0], 1, &facts, 4, 3);
+    print_triggers(rt, body, [2, 0, 0, 0], 1, &facts, 4, 3)
 }
 
 // Two atoms that share a variable: R(x,y), R(y,z) over a path with a loop at its end.
-fn shared_variable() {
-    io::write_all(STDOUT_FILENO, b"R(x,y), R(y,z)\n");
+fn shared_variable(rt: &HostRuntime) -> io::Result<()> {
+    rt.write_all(b"R(x,y), R(y,z)\n")?;
     let body = [[1, 0, 1, 0, 0], [1, 1, 2, 0, 0], [0; 5], [0; 5]];
     let facts = [
         0, 5, 0, 0, 0, 1, 2, 3, 0, 0, 1, 0, 1, 0, 0, 1, 1, 2, 0, 0, 1, 3, 3, 0, 0,
     ];
-    print_triggers(body, [2, 2, 0, 0], 2, &facts, 5, 6);
+    print_triggers(rt, body, [2, 2, 0, 0], 2, &facts, 5, 6)
 }
 
 // The same with the variables 5 and 2, and a variable that the body lacks between them.
-fn other_variables() {
-    io::write_all(STDOUT_FILENO, b"R(v5,v2), S(v2)\n");
+fn other_variables(rt: &HostRuntime) -> io::Result<()> {
+    rt.write_all(b"R(v5,v2), S(v2)\n")?;
     let body = [[1, 5, 2, 0, 0], [2, 2, 0, 0, 0], [0; 5], [0; 5]];
     let facts = [
         2, 1, 0, 0, 0, 1, 4, 1, 0, 0, 1, 0, 1, 0, 0, 2, 3, 0, 0, 0, 1, 2, 2, 0, 0, 1, 2, 3, 0, 0,
     ];
-    print_triggers(body, [2, 1, 0, 0], 2, &facts, 6, 5);
+    print_triggers(rt, body, [2, 1, 0, 0], 2, &facts, 6, 5)
 }
 
 // Four atoms over one predicate: every choice of two facts.
-fn four_atoms() {
-    io::write_all(STDOUT_FILENO, b"T(x), T(y), T(z), T(w)\n");
+fn four_atoms(rt: &HostRuntime) -> io::Result<()> {
+    rt.write_all(b"T(x), T(y), T(z), T(w)\n")?;
     let body = [
         [3, 0, 0, 0, 0],
         [3, 1, 0, 0, 0],
@@ -113,32 +115,32 @@ fn four_atoms() {
         [3, 3, 0, 0, 0],
     ];
     let facts = [3, 7, 0, 0, 0, 4, 0, 0, 0, 0, 3, 4, 0, 0, 0];
-    print_triggers(body, [1, 1, 1, 1], 4, &facts, 3, 8);
+    print_triggers(rt, body, [1, 1, 1, 1], 4, &facts, 3, 8)
 }
 
 // Four arguments, the first and the last the same variable, and an atom that refuses one of the facts.
-fn four_arguments() {
-    io::write_all(STDOUT_FILENO, b"V(x,y,z,x), S(y)\n");
+fn four_arguments(rt: &HostRuntime) -> io::Result<()> {
+    rt.write_all(b"V(x,y,z,x), S(y)\n")?;
     let body = [[5, 0, 1, 2, 0], [2, 1, 0, 0, 0], [0; 5], [0; 5]];
     let facts = [
         5, 1, 2, 3, 1, 5, 1, 2, 3, 2, 5, 2, 4, 0, 2, 5, 2, 2, 0, 2, 2, 2, 0, 0, 0,
     ];
-    print_triggers(body, [4, 1, 0, 0], 2, &facts, 5, 5);
+    print_triggers(rt, body, [4, 1, 0, 0], 2, &facts, 5, 5)
 }
 
 // A predicate that no fact has.
-fn no_trigger() {
-    io::write_all(STDOUT_FILENO, b"S(x), A(x)\n");
+fn no_trigger(rt: &HostRuntime) -> io::Result<()> {
+    rt.write_all(b"S(x), A(x)\n")?;
     let body = [[2, 0, 0, 0, 0], [6, 0, 0, 0, 0], [0; 5], [0; 5]];
     let facts = [2, 0, 0, 0, 0, 2, 1, 0, 0, 0];
-    print_triggers(body, [1, 1, 0, 0], 2, &facts, 2, 2);
+    print_triggers(rt, body, [1, 1, 0, 0], 2, &facts, 2, 2)
 }
 
-fn main() {
-    repeated_variable();
-    shared_variable();
-    other_variables();
-    four_atoms();
-    four_arguments();
-    no_trigger();
+fn main(rt: HostRuntime) -> io::Result<()> {
+    repeated_variable(&rt)?;
+    shared_variable(&rt)?;
+    other_variables(&rt)?;
+    four_atoms(&rt)?;
+    four_arguments(&rt)?;
+    no_trigger(&rt)
 }

@@ -5,20 +5,8 @@ use Rattle.model.specs.Lists.{collect, row}
 use Rattle.model.specs.Text.{line, lines, decimal, digits, term_numbers, fact_numbers, records, text}
 use Rattle.laws_triggers.specs.Match.{all_below}
 use Rattle.test_text.proofs.Tests.{terms_legible, legible_terms, facts_legible, legible_facts}
-use borrow.Author.Rules.{rules}
-use Rattle.test_text.proofs.river.Statement.{statement}
-use Rattle.test_text.proofs.river.Tie as tie
+use Rattle.test_text.proofs.river.Goals as goal
 
-show-requires : tie.Need-show-requires
+pub show-requires : goal.show-requires
 unfolding collect row line lines decimal digits term_numbers fact_numbers records text terms_legible facts_legible all_below
-show-requires c κs = ((legible_terms _ _ refl, legible_facts _ _ _ refl), lit≤ tt)
-
-pub river-spec : {M : Type 1} → statement M
-river-spec =
-    tie.close
-    (tie.spec
-    (λ c. search rules)
-    (λ c. search rules)
-    (λ c. search rules)
-    show-requires
-    (λ c. search rules))
+show-requires c = ((legible_terms _ _ refl, legible_facts _ _ _ refl), lit≤ tt)
