@@ -4,6 +4,7 @@ ghost use Rattle.std.specs.Prelude.{◌≤◌, length};
 use crate::case::{MORE, room};
 use crate::tables;
 use columns::{FACTS_FRONT, STORE_ROOM, TERMS_FRONT, pack};
+use std::io;
 use test_support::answer::{Answer, is_other, shown};
 use test_support::column::{four, two};
 use test_support::{bytes, say};
@@ -21,21 +22,34 @@ fn expected(line: &[u8], length: usize) -> Answer {
 }
 
 // Whether the answer or the output differs.
-fn compared(line: &[u8], terms: &[u16], facts: &[u16], store: &[u8], out: &mut [u8]) -> bool {
+fn compared(
+    rt: &HostRuntime,
+    line: &[u8],
+    terms: &[u16],
+    facts: &[u16],
+    store: &[u8],
+    out: &mut [u8],
+) -> io::Result<bool> {
     let transfer = pack(four(line, 7), four(line, 12), terms, facts, &mut *out);
     let found = shown(transfer);
-    if is_other(line, expected(line, store.len()), found) {
-        return true;
+    if is_other(rt, line, expected(line, store.len()), found)? {
+        return Ok(true);
     }
     if bytes::is_right(store, found.refusal, out) {
-        return false;
+        return Ok(false);
     }
-    say::note(line, b"another store");
-    true
+    say::note(rt, line, b"another store")?;
+    Ok(true)
 }
 
 // Whether `pack` differs on the numbers of two files, over lists that the case names.
-pub fn differs(line: &[u8], terms: &[u8], facts: &[u8], store: &[u8]) -> bool
+pub fn differs(
+    rt: &HostRuntime,
+    line: &[u8],
+    terms: &[u8],
+    facts: &[u8],
+    store: &[u8],
+) -> io::Result<bool>
     requires { 3 ≤ length line.now }
 {
     let lists = line[2];
@@ -48,6 +62,7 @@ pub fn differs(line: &[u8], terms: &[u8], facts: &[u8], store: &[u8]) -> bool
     let f = room(lists, b'f', FACTS_FRONT);
     let o = room(lists, b'o', STORE_ROOM);
     compared(
+        rt,
         line,
         &term_list[0..t],
         &fact_list[0..f],

@@ -4,6 +4,7 @@ ghost use Rattle.std.specs.Prelude.{◌≤◌, length};
 use crate::case::{MORE, room};
 use crate::tables;
 use columns::{FACTS_FRONT, TERMS_FRONT, Unpacked, unpack};
+use std::io;
 use test_support::column::{four, two};
 use test_support::{numbers, say};
 
@@ -49,29 +50,36 @@ fn are_right(line: &[u8], terms: &[u8], facts: &[u8], term_list: &[u16], fact_li
 
 // Whether the answer or a table differs.
 fn compared(
+    rt: &HostRuntime,
     line: &[u8],
     terms: &[u8],
     facts: &[u8],
     store: &[u8],
     term_list: &mut [u16],
     fact_list: &mut [u16],
-) -> bool
+) -> io::Result<bool>
     requires { (length term_list.old ≤ 100000) × (length fact_list.old ≤ 100000) }
 {
     let answer = unpack(store, &mut *term_list, &mut *fact_list);
     if !is_expected(line, answer) {
-        say::note(line, b"another answer");
-        return true;
+        say::note(rt, line, b"another answer")?;
+        return Ok(true);
     }
     if are_right(line, terms, facts, term_list, fact_list) {
-        return false;
+        return Ok(false);
     }
-    say::note(line, b"other tables");
-    true
+    say::note(rt, line, b"other tables")?;
+    Ok(true)
 }
 
 // Whether `unpack` differs on the bytes of a file, over lists that the case names.
-pub fn differs(line: &[u8], terms: &[u8], facts: &[u8], store: &[u8]) -> bool
+pub fn differs(
+    rt: &HostRuntime,
+    line: &[u8],
+    terms: &[u8],
+    facts: &[u8],
+    store: &[u8],
+) -> io::Result<bool>
     requires { 3 ≤ length line.now }
 {
     let lists = line[2];
@@ -80,6 +88,7 @@ pub fn differs(line: &[u8], terms: &[u8], facts: &[u8], store: &[u8]) -> bool
     let t = room(lists, b't', TERMS_FRONT);
     let f = room(lists, b'f', FACTS_FRONT);
     compared(
+        rt,
         line,
         terms,
         facts,

