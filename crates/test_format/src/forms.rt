@@ -1,6 +1,8 @@
 // What `read` leaves of a form that was full of marks.
+use crate::answer::FILE_ROOM;
 use form::layout::LENGTH;
 use reader::read;
+use std::io;
 use test_support::column::{four, line_end};
 use test_support::numbers::{MARK, is_marked};
 use test_support::{file, say};
@@ -44,36 +46,36 @@ fn put_lines(text: &[u8], form: &mut [u16]) {
 }
 
 // Puts the numbers of a file at their places.
-fn put_file(path: &[u8], form: &mut [u16]) {
-    let fd = file::open(path);
-    if fd < 0 {
-        return;
-    }
-    let mut text = io::buffer();
-    let n = file::load(fd, &mut text);
+fn put_file(rt: &HostRuntime, path: &[u8], form: &mut [u16]) -> io::Result<()> {
+    let Some(file) = file::open(rt, path)? else {
+        return Ok(());
+    };
+    let mut text = [0u8; FILE_ROOM];
+    let n = file::load(file, &mut text[..])?;
     put_lines(&text[..n], form);
+    Ok(())
 }
 
 // Reads a book into a form.
-fn read_file(path: &[u8], form: &mut [u16]) {
-    let fd = file::open(path);
-    if fd < 0 {
-        return;
-    }
-    let mut bytes = io::buffer();
-    let n = file::load(fd, &mut bytes);
+fn read_file(rt: &HostRuntime, path: &[u8], form: &mut [u16]) -> io::Result<()> {
+    let Some(file) = file::open(rt, path)? else {
+        return Ok(());
+    };
+    let mut bytes = [0u8; FILE_ROOM];
+    let n = file::load(file, &mut bytes[..])?;
     read(&bytes[..n], form);
+    Ok(())
 }
 
 // Whether the form of a book has another number than the lines of a file say, or another than 0 elsewhere.
-pub fn differs(book: &[u8], numbers: &[u8]) -> bool {
+pub fn differs(rt: &HostRuntime, book: &[u8], numbers: &[u8]) -> io::Result<bool> {
     let mut expected = [0u16; LENGTH];
-    put_file(numbers, &mut expected[..]);
+    put_file(rt, numbers, &mut expected[..])?;
     let mut found = [MARK; LENGTH];
-    read_file(book, &mut found[..]);
+    read_file(rt, book, &mut found[..])?;
     if tables::row_stands_at(&found[..], 0, &expected[..]) {
-        return false;
+        return Ok(false);
     }
-    say::note(book, b"another form");
-    true
+    say::note(rt, book, b"another form")?;
+    Ok(true)
 }

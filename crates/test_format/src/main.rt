@@ -11,69 +11,70 @@ mod forms;
 mod reading;
 mod writing;
 
+use crate::answer::FILE_ROOM;
+use std::io;
 use test_support::column::line_end;
 use test_support::tally::Tally;
 use test_support::{file, say};
 
 // Whether a case differs, which is then said.
-fn differs(line: &[u8]) -> bool {
+fn differs(rt: &HostRuntime, line: &[u8]) -> io::Result<bool> {
     if 0 < line.len() {
         if line[0] == b'w' {
-            return writing::differs(line);
+            return writing::differs(rt, line);
         }
     }
-    reading::differs(line)
+    reading::differs(rt, line)
 }
 
-fn try_cases(text: &[u8]) -> Tally {
+fn try_cases(rt: &HostRuntime, text: &[u8]) -> io::Result<Tally> {
     let mut tally = Tally::new();
     let mut at = 0;
     while at < text.len() {
         let end = line_end(text, at);
-        tally = tally.with(differs(&text[at..end]));
+        tally = tally.with(differs(rt, &text[at..end])?);
         at = end + 1;
     }
-    tally
+    Ok(tally)
 }
 
-fn try_group(name: &[u8]) -> Tally {
-    let fd = file::open(name);
-    if fd < 0 {
-        return Tally::new().with(true);
-    }
-    let mut text = io::buffer();
-    let n = file::load(fd, &mut text);
-    let tally = try_cases(&text[..n]);
-    say::count(name, tally.cases, tally.differences);
-    tally
+fn try_group(rt: &HostRuntime, name: &[u8]) -> io::Result<Tally> {
+    let Some(file) = file::open(rt, name)? else {
+        return Ok(Tally::new().with(true));
+    };
+    let mut text = [0u8; FILE_ROOM];
+    let n = file::load(file, &mut text[..])?;
+    let tally = try_cases(rt, &text[..n])?;
+    say::count(rt, name, tally.cases, tally.differences)?;
+    Ok(tally)
 }
 
 // The forms of River and Lake in both versions, and one with a predicate that takes two bytes, number by number.
-fn try_forms() -> Tally {
+fn try_forms(rt: &HostRuntime) -> io::Result<Tally> {
     let tally = Tally::new()
-        .with(forms::differs(b"river.book", b"river.form"))
-        .with(forms::differs(b"lake.book", b"lake.form"))
-        .with(forms::differs(b"river-2.book", b"river-2.form"))
-        .with(forms::differs(b"lake-2.book", b"lake-2.form"))
-        .with(forms::differs(b"c15-predicate-256.book", b"c15-predicate-256.form"));
-    say::count(b"forms", tally.cases, tally.differences);
-    tally
+        .with(forms::differs(rt, b"river.book", b"river.form")?)
+        .with(forms::differs(rt, b"lake.book", b"lake.form")?)
+        .with(forms::differs(rt, b"river-2.book", b"river-2.form")?)
+        .with(forms::differs(rt, b"lake-2.book", b"lake-2.form")?)
+        .with(forms::differs(rt, b"c15-predicate-256.book", b"c15-predicate-256.form")?);
+    say::count(rt, b"forms", tally.cases, tally.differences)?;
+    Ok(tally)
 }
 
-fn main() {
-    try_group(b"misstated");
-    forms::differs(b"river.book", b"lake.form");
-    forms::differs(b"river.book", b"river-2.form");
-    let tally = try_group(b"refusals")
-        .plus(try_group(b"damaged"))
-        .plus(try_group(b"random"))
-        .plus(try_group(b"papers"))
-        .plus(try_group(b"longest"))
-        .plus(try_group(b"lengths"))
-        .plus(try_group(b"requests"))
-        .plus(try_group(b"generated"))
-        .plus(try_forms())
-        .plus(try_group(b"writing"))
-        .plus(try_group(b"versions"));
-    say::count(b"all", tally.cases, tally.differences);
+fn main(rt: HostRuntime) -> io::Result<()> {
+    try_group(&rt, b"misstated")?;
+    forms::differs(&rt, b"river.book", b"lake.form")?;
+    forms::differs(&rt, b"river.book", b"river-2.form")?;
+    let tally = try_group(&rt, b"refusals")?
+        .plus(try_group(&rt, b"damaged")?)
+        .plus(try_group(&rt, b"random")?)
+        .plus(try_group(&rt, b"papers")?)
+        .plus(try_group(&rt, b"longest")?)
+        .plus(try_group(&rt, b"lengths")?)
+        .plus(try_group(&rt, b"requests")?)
+        .plus(try_group(&rt, b"generated")?)
+        .plus(try_forms(&rt)?)
+        .plus(try_group(&rt, b"writing")?)
+        .plus(try_group(&rt, b"versions")?);
+    say::count(&rt, b"all", tally.cases, tally.differences)
 }

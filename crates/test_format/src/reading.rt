@@ -3,6 +3,7 @@
 use crate::answer::{INPUT_LIMIT, LENT_LIMIT, expected};
 use crate::forms;
 use reader::read;
+use std::io;
 use test_support::answer::{is_other, shown};
 use test_support::column::four;
 use test_support::{bytes, file, numbers, say};
@@ -26,39 +27,38 @@ fn is_written_back(form: &[u16], book: &[u8]) -> bool {
 }
 
 // Whether the answer, the form of marks or what is written back differs.
-fn compared(line: &[u8], book: &[u8], form: &mut [u16]) -> bool {
+fn compared(rt: &HostRuntime, line: &[u8], book: &[u8], form: &mut [u16]) -> io::Result<bool> {
     let transfer = read(book, form);
     let found = shown(transfer);
-    if is_other(line, expected(line), found) {
-        return true;
+    if is_other(rt, line, expected(line), found)? {
+        return Ok(true);
     }
     if !forms::is_right(book, found.refusal, form) {
-        say::note(line, b"another form");
-        return true;
+        say::note(rt, line, b"another form")?;
+        return Ok(true);
     }
     if found.refusal != 0 {
-        return false;
+        return Ok(false);
     }
     if is_written_back(form, book) {
-        return false;
+        return Ok(false);
     }
-    say::note(line, b"not written back");
-    true
+    say::note(rt, line, b"not written back")?;
+    Ok(true)
 }
 
 // Whether a case differs, by the front of its book.
-pub fn differs(line: &[u8]) -> bool {
+pub fn differs(rt: &HostRuntime, line: &[u8]) -> io::Result<bool> {
     if line.len() < 15 {
-        say::note(line, b"no case");
-        return true;
+        say::note(rt, line, b"no case")?;
+        return Ok(true);
     }
-    let fd = file::open(&line[15..]);
-    if fd < 0 {
-        return true;
-    }
+    let Some(file) = file::open(rt, &line[15..])? else {
+        return Ok(true);
+    };
     let mut book = [0u8; INPUT_LIMIT];
-    let n = file::load(fd, &mut book[..]);
+    let n = file::load(file, &mut book[..])?;
     let mut form = [numbers::MARK; LENT_LIMIT];
     let places = four(line, 10);
-    compared(line, &book[..n], &mut form[0..places])
+    compared(rt, line, &book[..n], &mut form[0..places])
 }

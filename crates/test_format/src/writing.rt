@@ -4,41 +4,47 @@
 use crate::answer::{INPUT_LIMIT, LENT_LIMIT, expected};
 use crate::forms::put;
 use reader::read;
+use std::io;
 use test_support::answer::{is_other, shown};
 use test_support::column::four;
 use test_support::{bytes, file, numbers, say};
 use writer::write;
 
 // Whether the answer or the list of marks differs.
-fn compared(line: &[u8], form: &[u16], book: &[u8], list: &mut [u8]) -> bool {
+fn compared(
+    rt: &HostRuntime,
+    line: &[u8],
+    form: &[u16],
+    book: &[u8],
+    list: &mut [u8],
+) -> io::Result<bool> {
     let transfer = write(form, list);
     let found = shown(transfer);
-    if is_other(line, expected(line), found) {
-        return true;
+    if is_other(rt, line, expected(line), found)? {
+        return Ok(true);
     }
     if bytes::is_right(book, found.refusal, list) {
-        return false;
+        return Ok(false);
     }
-    say::note(line, b"other bytes");
-    true
+    say::note(rt, line, b"other bytes")?;
+    Ok(true)
 }
 
-pub fn differs(line: &[u8]) -> bool {
+pub fn differs(rt: &HostRuntime, line: &[u8]) -> io::Result<bool> {
     if line.len() < 30 {
-        say::note(line, b"no case");
-        return true;
+        say::note(rt, line, b"no case")?;
+        return Ok(true);
     }
-    let fd = file::open(&line[30..]);
-    if fd < 0 {
-        return true;
-    }
+    let Some(file) = file::open(rt, &line[30..])? else {
+        return Ok(true);
+    };
     let mut book = [0u8; INPUT_LIMIT];
-    let n = file::load(fd, &mut book[..]);
+    let n = file::load(file, &mut book[..])?;
     let mut form = [numbers::MARK; LENT_LIMIT];
     read(&book[..n], &mut form[..]);
     put(&line[20..], &mut form[..]);
     let mut list = [bytes::MARK; LENT_LIMIT];
     let room = four(line, 10);
     let places = four(line, 15);
-    compared(line, &form[0..places], &book[..n], &mut list[0..room])
+    compared(rt, line, &form[0..places], &book[..n], &mut list[0..room])
 }

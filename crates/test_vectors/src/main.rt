@@ -8,45 +8,48 @@
 mod printing;
 mod tables;
 
+use std::io;
 use test_support::column::line_end;
 use test_support::tally::Tally;
 use test_support::{file, say};
 
-fn try_cases(text: &[u8]) -> Tally {
+// More bytes than a group has.
+const FILE_ROOM: usize = 4096;
+
+fn try_cases(rt: &HostRuntime, text: &[u8]) -> io::Result<Tally> {
     let mut tally = Tally::new();
     let mut at = 0;
     while at < text.len() {
         let end = line_end(text, at);
-        tally = tally.with(printing::differs(&text[at..end]));
+        tally = tally.with(printing::differs(rt, &text[at..end])?);
         at = end + 1;
     }
-    tally
+    Ok(tally)
 }
 
-fn try_group(name: &[u8]) -> Tally {
-    let fd = file::open(name);
-    if fd < 0 {
-        return Tally::new().with(true);
-    }
-    let mut text = io::buffer();
-    let n = file::load(fd, &mut text);
-    let tally = try_cases(&text[..n]);
-    say::count(name, tally.cases, tally.differences);
-    tally
+fn try_group(rt: &HostRuntime, name: &[u8]) -> io::Result<Tally> {
+    let Some(file) = file::open(rt, name)? else {
+        return Ok(Tally::new().with(true));
+    };
+    let mut text = [0u8; FILE_ROOM];
+    let n = file::load(file, &mut text[..])?;
+    let tally = try_cases(rt, &text[..n])?;
+    say::count(rt, name, tally.cases, tally.differences)?;
+    Ok(tally)
 }
 
-fn main() {
-    try_group(b"misstated");
-    let tally = try_group(b"papers")
-        .plus(try_group(b"refusals"))
-        .plus(try_group(b"misreadings"))
-        .plus(try_group(b"limits"))
-        .plus(try_group(b"order"))
-        .plus(try_group(b"depths"))
-        .plus(try_group(b"version-2"))
-        .plus(try_group(b"random"))
-        .plus(try_group(b"damaged"))
-        .plus(try_group(b"longer"))
-        .plus(try_group(b"short"));
-    say::count(b"all", tally.cases, tally.differences);
+fn main(rt: HostRuntime) -> io::Result<()> {
+    try_group(&rt, b"misstated")?;
+    let tally = try_group(&rt, b"papers")?
+        .plus(try_group(&rt, b"refusals")?)
+        .plus(try_group(&rt, b"misreadings")?)
+        .plus(try_group(&rt, b"limits")?)
+        .plus(try_group(&rt, b"order")?)
+        .plus(try_group(&rt, b"depths")?)
+        .plus(try_group(&rt, b"version-2")?)
+        .plus(try_group(&rt, b"random")?)
+        .plus(try_group(&rt, b"damaged")?)
+        .plus(try_group(&rt, b"longer")?)
+        .plus(try_group(&rt, b"short")?);
+    say::count(&rt, b"all", tally.cases, tally.differences)
 }

@@ -6,6 +6,7 @@ ghost use Rattle.std.specs.Prelude.{◌+◌, ◌<◌, ◌≤◌, length};
 
 use crate::tables;
 use report::{FACTS_FRONT, TERMS_FRONT, TEXT_ROOM, print};
+use std::io;
 use test_support::answer::{Answer, is_other, shown};
 use test_support::column::{find, four};
 use test_support::{bytes, file, numbers, say};
@@ -58,13 +59,14 @@ fn expected(lists: u8, length: usize) -> Answer {
 
 // Whether the answer, the text or the tables differ, over lists of marks.
 fn compared(
+    rt: &HostRuntime,
     line: &[u8],
     book: &[u8],
     text: &[u8],
     terms: &mut [u16],
     facts: &mut [u16],
     out: &mut [u8],
-) -> bool
+) -> io::Result<bool>
     requires { 7 ≤ length line.now }
 {
     let transfer = print(
@@ -75,22 +77,22 @@ fn compared(
         &mut *out,
     );
     let found = shown(transfer);
-    if is_other(line, expected(line[0], text.len()), found) {
-        return true;
+    if is_other(rt, line, expected(line[0], text.len()), found)? {
+        return Ok(true);
     }
     if !bytes::is_right(text, found.refusal, out) {
-        say::note(line, b"another text");
-        return true;
+        say::note(rt, line, b"another text")?;
+        return Ok(true);
     }
     if tables::are_right(&line[TABLES_COLUMN..], terms, facts) {
-        return false;
+        return Ok(false);
     }
-    say::note(line, b"other tables");
-    true
+    say::note(rt, line, b"other tables")?;
+    Ok(true)
 }
 
 // Whether `print` differs on a book, over lists that its case names.
-fn tried(line: &[u8], book: &[u8], text: &[u8]) -> bool
+fn tried(rt: &HostRuntime, line: &[u8], book: &[u8], text: &[u8]) -> io::Result<bool>
     requires { 7 ≤ length line.now }
 {
     let lists = line[0];
@@ -101,6 +103,7 @@ fn tried(line: &[u8], book: &[u8], text: &[u8]) -> bool
     let f = room(lists, b'f', FACTS_FRONT);
     let o = room(lists, b'o', TEXT_ROOM);
     compared(
+        rt,
         line,
         book,
         text,
@@ -111,27 +114,25 @@ fn tried(line: &[u8], book: &[u8], text: &[u8]) -> bool
 }
 
 // Whether a case differs, by the front of its book.
-pub fn differs(line: &[u8]) -> bool {
+pub fn differs(rt: &HostRuntime, line: &[u8]) -> io::Result<bool> {
     if line.len() < BOOK_COLUMN {
-        say::note(line, b"no case");
-        return true;
+        say::note(rt, line, b"no case")?;
+        return Ok(true);
     }
     let space = find(line, BOOK_COLUMN, b' ');
     if line.len() <= space {
-        say::note(line, b"no case");
-        return true;
+        say::note(rt, line, b"no case")?;
+        return Ok(true);
     }
-    let fd = file::open(&line[BOOK_COLUMN..space]);
-    if fd < 0 {
-        return true;
-    }
+    let Some(file) = file::open(rt, &line[BOOK_COLUMN..space])? else {
+        return Ok(true);
+    };
     let mut book = [0u8; INPUT_LIMIT];
-    let n = file::load(fd, &mut book[..]);
-    let fd = file::open(&line[space + 1..]);
-    if fd < 0 {
-        return true;
-    }
+    let n = file::load(file, &mut book[..])?;
+    let Some(file) = file::open(rt, &line[space + 1..])? else {
+        return Ok(true);
+    };
     let mut text = [0u8; TEXT_ROOM + 1];
-    let m = file::load(fd, &mut text[..]);
-    tried(line, &book[..n], &text[..m])
+    let m = file::load(file, &mut text[..])?;
+    tried(rt, line, &book[..n], &text[..m])
 }
