@@ -5,9 +5,9 @@ use Rattle.rulfjen.proofs.Printed.{text_within}
 use Rattle.rulfjen.proofs.main.Goals as goal
 
 pub slice_bounds-out-end : goal.slice_bounds-out-end
-slice_bounds-out-end c = text_within c.text-count.result c.text-count.new.1.0 c.text-count.ensures
+slice_bounds-out-end c = text_within c.text-count.result c.text-count.new.out c.text-count.ensures
 
 pub slice_bounds-write_all-end : goal.slice_bounds-write_all-end
 slice_bounds-write_all-end c =
     let t = c.text-count in
-    sym (length-take-le t.result t.new.1.0 (text_within t.result t.new.1.0 t.ensures))
+    sym (length-take-le t.result t.new.out (text_within t.result t.new.out t.ensures))

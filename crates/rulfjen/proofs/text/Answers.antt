@@ -6,10 +6,10 @@ pub returns-in-Done : goal.returns-in-Done
 returns-in-Done c =
     let s = c in
     let p = c in
-    text_is s.args.input.now s.args.out.now s.requires.0 s.requires.1 _ p.print-answer.ensures c.answer.given.0.0 c.answer.given.1
+    text_is s.args.input.now s.args.out.now s.requires.0 s.requires.1 _ p.print-answer.ensures _ c.in-Done.is
 
 pub returns-in-Refusal : goal.returns-in-Refusal
 returns-in-Refusal c =
     let s = c in
     let p = c in
-    absurd (never_refused s.args.input.now s.args.out.now s.requires.0 s.requires.1 _ p.print-answer.ensures _ _ c.enum_told-1.given.1)
+    absurd (never_refused s.args.input.now s.args.out.now s.requires.0 s.requires.1 _ p.print-answer.ensures _ _ c.in-Refusal.is)

@@ -13,13 +13,18 @@ use Rattle.cursor.specs.Going.{told}
 use Rattle.cursor.proofs.Plans.{planned_body}
 use Rattle.test_triggers.proofs.Cases.{case_searchable}
 use Rattle.test_triggers.proofs.print_triggers.Goals as goal
+use Rattle.test_triggers.proofs.print_triggers.Goals.{After-plan_of_all-plan}
 
 pub extend-requires : goal.extend-requires
 extend-requires c =
     let s = c in
     (indexed_zeros s.args.facts.now 3120 (omega arith), omega arith, record { few = omega arith; rows = s.requires.room; room = search rules })
 
-searchable : (p : goal.After-plan_of_all-plan)
+pub plan_of_all-plan-requires : goal.plan_of_all-plan-requires
+plan_of_all-plan-requires c = (case_searchable c.requires).body
+
+-- the body by the plan can be searched
+searchable : (p : After-plan_of_all-plan)
     → Searchable (body_of p.args.body p.plan_of_all-plan.result) p.args.facts.now
     p.args.count p.args.terms
 searchable p =
@@ -29,7 +34,7 @@ searchable p =
 pub begin-requires : goal.begin-requires
 begin-requires c = (
   record {
-    searchable = searchable c;
+    searchable = searchable (goal.at.begin-requires c).After-plan_of_all-plan;
     planned = c.plan_of_all-plan.ensures.planned;
     indexed = c.extend.ensures.0;
     apart = λ i h xs f g l. absurd (omega arith);
@@ -40,7 +45,7 @@ begin-requires c = (
 pub loop-body-init : goal.loop-body-init
 loop-body-init c =
     record {
-      searchable = searchable c;
+      searchable = searchable (goal.at.loop-body-init c).After-plan_of_all-plan;
       planned = c.plan_of_all-plan.ensures.planned;
       indexed = c.extend.ensures.0;
       given = [];
