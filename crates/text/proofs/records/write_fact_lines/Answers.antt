@@ -1,6 +1,6 @@
 -- `text::records::write_fact_lines` meets its contract. The loop's invariant: the first `i` lines are written. Assumes nothing.
 use mathlib.Core.Path.{◌≡◌, refl, ◌∙◌}
-use Prim.Native.Nat.{ℕ, ◌-◌}
+use Prim.Native.Nat.{ℕ}
 use native.Mathlib.Omega.{arith}
 use Rattle.model.specs.Text.{line, fact_word, fact_numbers, lines}
 use Rattle.text.proofs.Writing.{writes_none, writes_append}
@@ -31,7 +31,7 @@ loop-i-preserved c =
       omega arith,
       rw (lines_more (λ (i : ℕ). line fact_word (fact_numbers s.args.arities.now s.args.facts.now i)) l.loop-i.i)
           (writes_append l.loop-i.invariant.1 c.write_fact_line-o.ensures (omega arith)),
-      c.write_fact_line-o.auto.1.1.1.0 ∙ l.loop-i.invariant.2,
+      c.write_fact_line-o.auto.out ∙ l.loop-i.invariant.2,
     )
 
 pub shape_of-out : goal.shape_of-out

@@ -2,7 +2,7 @@
 -- Assumes nothing.
 use mathlib.Core.Path.{refl, ◌∙◌}
 use mathlib.Core.List.{◌∷◌}
-use Prim.Native.Nat.{ℕ, ◌-◌}
+use Prim.Native.Nat.{ℕ}
 use native.Mathlib.Omega.{arith}
 use lib.Seq.{take_all}
 use Rattle.model.specs.Lists.{collect}
@@ -35,7 +35,7 @@ loop-i-preserved c =
       omega arith,
       rw (collect_more (λ (n : ℕ). 32 ∷ decimal n) s.args.numbers.now l.loop-i.i (omega arith))
           (writes_append l.loop-i.invariant.1 c.write_number-o.ensures (omega arith)),
-      c.write_number-o.auto.1.0 ∙ l.loop-i.invariant.2,
+      c.write_number-o.auto.out ∙ l.loop-i.invariant.2,
     )
 
 pub shape_of-out : goal.shape_of-out
