@@ -8,10 +8,6 @@ use Rattle.judging.specs.declared.verdict.Verdict as Declared
 use Rattle.judging.specs.Verdict.{meant}
 use Rattle.embed.specs.Numbers.{of_checked, verdict_number, verdict_values, transferred, transfer_number, transfer_value}
 
--- the numbers of a verdict that is of a known case
-pub verdict_left : {v w : Declared.Verdict} → v ≡ w → (verdict_number (meant w) ≡ verdict_number (meant v)) × (verdict_values (meant w) ≡ verdict_values (meant v))
-verdict_left e = (ap (λ (u : Declared.Verdict). verdict_number (meant u)) (sym e), ap (λ (u : Declared.Verdict). verdict_values (meant u)) (sym e))
-
 -- the number of a verdict, and its three values
 pub check_left : (v : Verdict) {terms facts : List ℕ} {n : ℕ} {xs : List ℕ} → (n ≡ verdict_number v) × (xs ≡ verdict_values v)
     → of_checked (record { verdict = v; terms = terms; facts = facts }) ≡ record { number = n; answer = xs; terms = terms; facts = facts }

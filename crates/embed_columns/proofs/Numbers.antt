@@ -8,10 +8,6 @@ use Rattle.columns.specs.Contract.{answer_of}
 use Rattle.columns.specs.declared.Unpacked.{Unpacked}
 use Rattle.embed_columns.specs.Numbers.{pack_number, pack_value, unpack_number, unpack_values, of_packed, of_unpacked}
 
--- the numbers of an answer that is of a known case
-pub answer_left : {a b : Unpacked} → a ≡ b → (unpack_number (answer_of b) ≡ unpack_number (answer_of a)) × (unpack_values (answer_of b) ≡ unpack_values (answer_of a))
-answer_left e = (ap (λ (u : Unpacked). unpack_number (answer_of u)) (sym e), ap (λ (u : Unpacked). unpack_values (answer_of u)) (sym e))
-
 -- both numbers of a transfer
 pub pack_left : (a : Transfer) {xs : List ℕ} {n k : ℕ} → (n ≡ pack_number a) × (k ≡ pack_value a)
     → of_packed (record { answer = a; bytes = xs }) ≡ record { number = n; value = k; store = xs }

@@ -1,19 +1,15 @@
--- Bytes that are copied into the rest of a list, from a place on, are written there. Assumes nothing.
+-- Bytes that are copied over a part of a list, from a place on, are written there. Assumes nothing.
 use mathlib.Core.Path.{◌≡◌, sym, ap, ap₂, ◌∙◌}
-use mathlib.Core.List.{List, ◌++◌, append_assoc, append-nil}
-use Prim.Native.Nat.{ℕ, ◌+◌, ◌-◌, ◌≤◌}
-use native.Mathlib.Omega.{arith}
-use lib.ListN.{length, take, drop, length-drop}
-use lib.Seq.{take_all, drop-drop, drop-length}
-use borrow.Rule.Slice.PartMut.{mid_of, put_mid, Post-is}
+use mathlib.Core.List.{List, ◌++◌, append_assoc}
+use Prim.Native.Nat.{ℕ, ◌+◌}
+use lib.ListN.{length, take, drop}
+use lib.Seq.{drop-drop}
+use borrow.Rule.Slice.PartMut.{put_mid}
 use Rattle.tables.specs.Rows.{written}
 
-pub copied_written : (w out : List ℕ) (at : ℕ) {x : List ℕ} → at + length w ≤ length out
-    → x ≡ take (length w) w ++ drop (length w) (mid_of at (length out - at) out) → put_mid at (length out - at) out x ≡ written w at out
+pub copied_written : (w out : List ℕ) (at k : ℕ) {x : List ℕ} → k ≡ length w → x ≡ w → put_mid at k out x ≡ written w at out
 unfolding written
-copied_written w out at {x} h e =
-    let rest = take_all (length out - at) (drop at out) (omega (arith, length-drop at out)) in
-    let all = e ∙ ap₂ (λ (u v : List ℕ). u ++ drop (length w) v) (take_all (length w) w (omega arith)) rest ∙ ap (λ (v : List ℕ). w ++ v) (drop-drop (length w) at out) in
-    ap₂ (λ (u v : List ℕ). take at out ++ (u ++ v)) all (Post-is at (length out) out (omega arith) ∙ drop-length out)
-    ∙ ap (λ (u : List ℕ). take at out ++ u) (append-nil (w ++ drop (at + length w) out))
+copied_written w out at k h e =
+    ap₂ (λ (u : List ℕ) (n : ℕ). take at out ++ (u ++ drop n (drop at out))) e h
+    ∙ ap (λ (v : List ℕ). take at out ++ (w ++ v)) (drop-drop (length w) at out)
     ∙ sym (append_assoc (take at out) w (drop (at + length w) out))

@@ -1,12 +1,11 @@
 -- `columns::is_sound` meets its contract. Assumes nothing.
-use mathlib.Core.Path.{◌≡◌, sym, ap, ap₂, ◌∙◌}
+use mathlib.Core.Path.{sym, ap, ap₂, ◌∙◌}
 use mathlib.Core.Bool.{◌&&◌}
 use mathlib.Core.List.{List}
 use Prim.Native.Nat.{ℕ, ◌+◌}
 use native.Mathlib.Omega.{arith}
 use lib.Dec.{eqb}
 use lib.ListN.{length}
-use Rattle.model.specs.Format.{stated}
 use Rattle.columns_model.specs.Store.{within, store_length}
 use Rattle.columns_model.proofs.Sound.{sound_brief, sound_unstated, sound_other, sound_counts}
 use Rattle.columns.proofs.is_sound.Goals as goal
@@ -22,22 +21,15 @@ returns-then-stated_length-store c =
     let e = c.stated_length.ensures.0 in
     sym (sound_unstated c.args.store.now c.if-store-lt-HEAD_LENGTH.false (λ h. c.if-stated_length-store.true (ap (λ (k : ℕ). k + 4) e ∙ h)))
 
--- past the first two tests
-says : (c : goal.Else-stated_length-store) → let bs = c.args.store.now in stated bs + 4 ≡ length bs
-says c = ap (λ (k : ℕ). k + 4) (sym c.stated_length.ensures.0) ∙ c.if-stated_length-store.false
-
 pub returns-then-store-ne-VERSION : goal.returns-then-store-ne-VERSION
 returns-then-store-ne-VERSION c =
-    let l = c in
-    sym (sound_other l.args.store.now l.if-store-lt-HEAD_LENGTH.false (says l) c.if-store-ne-VERSION.true)
+    sym (sound_other c.args.store.now c.if-store-lt-HEAD_LENGTH.false (ap (λ (k : ℕ). k + 4) (sym c.stated_length.ensures.0) ∙ c.if-stated_length-store.false) c.if-store-ne-VERSION.true)
 
 pub returns : goal.returns
 returns c =
-    let m = c in
-    let l = m in
-    let bs : List ℕ = l.args.store.now in
+    let bs : List ℕ = c.args.store.now in
     let t = c.count_at.ensures.0 in
     let f = c.count_at-2.ensures.0 in
-    c.fits2.ensures
+    c.fits.ensures
     ∙ ap₂ (λ (i k : ℕ). within i k && eqb (store_length i k) (length bs)) t f
-    ∙ sym (sound_counts bs l.if-store-lt-HEAD_LENGTH.false (says l) m.if-store-ne-VERSION.false)
+    ∙ sym (sound_counts bs c.if-store-lt-HEAD_LENGTH.false (ap (λ (k : ℕ). k + 4) (sym c.stated_length.ensures.0) ∙ c.if-stated_length-store.false) c.if-store-ne-VERSION.false)

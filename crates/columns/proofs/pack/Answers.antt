@@ -12,49 +12,31 @@ returns-then-terms-lt-TERMS_FRONT c =
 
 pub returns-then-facts-lt-FACTS_FRONT : goal.returns-then-facts-lt-FACTS_FRONT
 returns-then-facts-lt-FACTS_FRONT c =
-    let l = c in
-    let a = l.args in
-    packed_few_facts a.t a.f a.terms.now a.facts.now a.out.now l.if-terms-lt-TERMS_FRONT.false c.if-facts-lt-FACTS_FRONT.true
+    let a = c.args in
+    packed_few_facts a.t a.f a.terms.now a.facts.now a.out.now c.if-terms-lt-TERMS_FRONT.false c.if-facts-lt-FACTS_FRONT.true
 
 pub returns-then-out-lt-STORE_ROOM : goal.returns-then-out-lt-STORE_ROOM
 returns-then-out-lt-STORE_ROOM c =
-    let m = c in
-    let l = m in
-    let a = l.args in
-    packed_few_bytes a.t a.f a.terms.now a.facts.now a.out.now l.if-terms-lt-TERMS_FRONT.false m.if-facts-lt-FACTS_FRONT.false c.if-out-lt-STORE_ROOM.true
+    let a = c.args in
+    packed_few_bytes a.t a.f a.terms.now a.facts.now a.out.now c.if-terms-lt-TERMS_FRONT.false c.if-facts-lt-FACTS_FRONT.false c.if-out-lt-STORE_ROOM.true
 
 pub returns-then-t-gt-TERM_LIMIT : goal.returns-then-t-gt-TERM_LIMIT
 returns-then-t-gt-TERM_LIMIT c =
-    let n = c in
-    let m = n in
-    let l = m in
-    let a = l.args in
-    packed_many_terms a.t a.f a.terms.now a.facts.now a.out.now l.if-terms-lt-TERMS_FRONT.false m.if-facts-lt-FACTS_FRONT.false n.if-out-lt-STORE_ROOM.false c.if-t-gt-TERM_LIMIT.true
+    let a = c.args in
+    packed_many_terms a.t a.f a.terms.now a.facts.now a.out.now c.if-terms-lt-TERMS_FRONT.false c.if-facts-lt-FACTS_FRONT.false c.if-out-lt-STORE_ROOM.false c.if-t-gt-TERM_LIMIT.true
 
 pub returns-then-f-gt-FACT_LIMIT : goal.returns-then-f-gt-FACT_LIMIT
 returns-then-f-gt-FACT_LIMIT c =
-    let o = c in
-    let n = o in
-    let m = n in
-    let l = m in
-    let a = l.args in
-    packed_many_facts a.t a.f a.terms.now a.facts.now a.out.now l.if-terms-lt-TERMS_FRONT.false m.if-facts-lt-FACTS_FRONT.false n.if-out-lt-STORE_ROOM.false o.if-t-gt-TERM_LIMIT.false c.if-f-gt-FACT_LIMIT.true
+    let a = c.args in
+    packed_many_facts a.t a.f a.terms.now a.facts.now a.out.now c.if-terms-lt-TERMS_FRONT.false c.if-facts-lt-FACTS_FRONT.false c.if-out-lt-STORE_ROOM.false c.if-t-gt-TERM_LIMIT.false c.if-f-gt-FACT_LIMIT.true
 
 pub returns : goal.returns
 returns c =
-    let facts-put = c in
-    let terms-put = facts-put in
-    let head-put = terms-put in
-    let p = head-put in
-    let o = p in
-    let n = o in
-    let m = n in
-    let l = m in
-    let a = l.args in
-    let i = p.if-f-gt-FACT_LIMIT.false in
-    let j = o.if-t-gt-TERM_LIMIT.false in
-    let k = n.if-out-lt-STORE_ROOM.false in
-    packed_written a.t a.f a.terms.now a.facts.now a.out.now head-put.put_head.new.1.1.0 terms-put.put_columns.new.1.1.0 facts-put.put_columns-2.new.1.1.0 c.store_length.result
-    (lists_long a.t a.f a.terms.now a.facts.now a.out.now l.if-terms-lt-TERMS_FRONT.false m.if-facts-lt-FACTS_FRONT.false k)
+    let a = c.args in
+    let i = c.if-f-gt-FACT_LIMIT.false in
+    let j = c.if-t-gt-TERM_LIMIT.false in
+    let k = c.if-out-lt-STORE_ROOM.false in
+    packed_written a.t a.f a.terms.now a.facts.now a.out.now c.put_head.new.out c.put_columns.new.out c.put_columns-2.new.out c.store_length.result
+    (lists_long a.t a.f a.terms.now a.facts.now a.out.now c.if-terms-lt-TERMS_FRONT.false c.if-facts-lt-FACTS_FRONT.false k)
     (within_holds (record { terms = j; facts = i }))
-    (omega arith) head-put.put_head.ensures terms-put.put_columns.ensures facts-put.put_columns-2.ensures c.store_length.ensures
+    (omega arith) c.put_head.ensures c.put_columns.ensures c.put_columns-2.ensures c.store_length.ensures

@@ -13,26 +13,15 @@ use Rattle.columns.proofs.put_head.Goals as goal
 pub put_number-requires-3 : goal.put_number-requires-3
 put_number-requires-3 c = simp length-set (omega arith)
 
--- the list is as long as it was, up to the last count
-long : (c : goal.After-put_number-3) → length c.put_number-3.new.1.0 ≡ length c.args.out.now
-long c =
-    let d = c in
-    c.put_number-3.auto.1.0 ∙ simp length-set (d.put_number-2.auto.1.0 ∙ d.put_number.auto.1.0)
-
 pub put_number-requires-4 : goal.put_number-requires-4
-put_number-requires-4 c = let h = long c in omega arith
+put_number-requires-4 c = let h : length c.put_number-3.new.out ≡ length c.args.out.now = c.put_number-3.auto.out ∙ simp length-set (c.put_number-2.auto.out ∙ c.put_number.auto.out) in omega arith
 
 pub shape_of-out : goal.shape_of-out
-shape_of-out c = c.put_number-4.auto.1.0 ∙ long c
+shape_of-out c = c.put_number-4.auto.out ∙ c.put_number-3.auto.out ∙ simp length-set (c.put_number-2.auto.out ∙ c.put_number.auto.out)
 
 pub returns : goal.returns
 returns c =
-    let d = c in
-    let e = d in
-    let l = e in
-    let g = l in
-    let s = g in
-    let a = s.args in
-    head_written (l.store_length.result - 4) a.t a.f a.out.now g.put_number.new.1.0 e.put_number-2.new.1.0 d.put_number-3.new.1.0 c.put_number-4.new.1.0
-    (omega arith) g.put_number.ensures e.put_number-2.ensures d.put_number-3.ensures c.put_number-4.ensures
-    ∙ ap (λ (k : ℕ). sets a.out.now 0 (big_endian (k - 4) ++ (1 ∷ (two_bytes a.t ++ two_bytes a.f)))) l.store_length.ensures
+    let a = c.args in
+    head_written (c.store_length.result - 4) a.t a.f a.out.now c.put_number.new.out c.put_number-2.new.out c.put_number-3.new.out c.put_number-4.new.out
+    (omega arith) c.put_number.ensures c.put_number-2.ensures c.put_number-3.ensures c.put_number-4.ensures
+    ∙ ap (λ (k : ℕ). sets a.out.now 0 (big_endian (k - 4) ++ (1 ∷ (two_bytes a.t ++ two_bytes a.f)))) c.store_length.ensures

@@ -8,48 +8,35 @@ use Rattle.dmfa.proofs.Checking.{answer_few, answer_left}
 use Rattle.dmfa.proofs.check_by.Goals as goal
 
 pub judge-judgement-requires : goal.judge-judgement-requires
-judge-judgement-requires c = let s = c in record { deep = s.requires.0.deep; held = s.requires.0.held; numbered = s.requires.0.numbered; found = s.requires.1; kept = s.requires.2 }
-
--- the counts of the answer are within the limits, and its rows are those of the definition
-few : (c : goal.In-Answer-2) → (c.judgement-1.given.0.1.0 ≤ 513) × (c.judgement-1.given.0.1.1.0 ≤ 2048)
-few c =
-    let s = c in
-    let d = c.judge-judgement in
-    let g = c.judgement-1.given in
-    answer_few s.args.depth s.args.form.now s.requires.0.held g.0.0 d.new.1.1.0 g.0.1.0 d.new.1.1.1.0 g.0.1.1.0
-    (subst (JudgedAs s.args.depth s.args.form.now (length s.args.room.now) d.new.1.1.0 d.new.1.1.1.0) g.1 d.ensures)
+judge-judgement-requires c = record { deep = c.requires.0.deep; held = c.requires.0.held; numbered = c.requires.0.numbered; found = c.requires.1; kept = c.requires.2 }
 
 pub overflow_mul-n : goal.overflow_mul-n
-overflow_mul-n c = let f = few c in omega (arith, f.0)
+overflow_mul-n c =
+    let f = answer_few c.args.depth c.args.form.now c.requires.0.held c.in-Answer.verdict c.judge-judgement.new.terms c.in-Answer.n c.judge-judgement.new.facts c.in-Answer.m c.in-Answer.ensures in
+    omega (arith, f.0)
 
 pub fill-requires : goal.fill-requires
 fill-requires c =
-    let s = c in
-    let f = few c in
-    (omega (arith, f.0, c.judge-judgement.auto.1.1.0, s.requires.1.wide), omega (arith, f.0), s.requires.0.terms_long)
+    let f = answer_few c.args.depth c.args.form.now c.requires.0.held c.in-Answer.verdict c.judge-judgement.new.terms c.in-Answer.n c.judge-judgement.new.facts c.in-Answer.m c.in-Answer.ensures in
+    (omega (arith, f.0, c.judge-judgement.auto.terms, c.requires.1.wide), omega (arith, f.0), c.requires.0.terms_long)
 
 pub overflow_mul-m : goal.overflow_mul-m
-overflow_mul-m c = let f = few c in omega (arith, f.1)
+overflow_mul-m c =
+    let f = answer_few c.args.depth c.args.form.now c.requires.0.held c.in-Answer.verdict c.judge-judgement.new.terms c.in-Answer.n c.judge-judgement.new.facts c.in-Answer.m c.in-Answer.ensures in
+    omega (arith, f.1)
 
 pub fill-requires-in-Answer : goal.fill-requires-in-Answer
 fill-requires-in-Answer c =
-    let s = c in
-    let f = few c in
-    (omega (arith, f.1, c.judge-judgement.auto.1.1.1.0, s.requires.2.limited.fits), omega (arith, f.1), s.requires.0.facts_long)
+    let f = answer_few c.args.depth c.args.form.now c.requires.0.held c.in-Answer.verdict c.judge-judgement.new.terms c.in-Answer.n c.judge-judgement.new.facts c.in-Answer.m c.in-Answer.ensures in
+    (omega (arith, f.1, c.judge-judgement.auto.facts, c.requires.2.limited.fits), omega (arith, f.1), c.requires.0.facts_long)
 
 pub returns-in-Answer : goal.returns-in-Answer
 returns-in-Answer c =
-    let s = c in
+    let a = c.args in
     let d = c.judge-judgement in
-    let g = c.judgement.given in
-    let p = c.fill in
-    let q = c.fill-in-Answer in
-    answer_left s.args.depth s.args.form.now s.requires.0.held g.0.0 d.new.1.1.0 g.0.1.0 d.new.1.1.1.0 g.0.1.1.0
-    (subst (JudgedAs s.args.depth s.args.form.now (length s.args.room.now) d.new.1.1.0 d.new.1.1.1.0) g.1 d.ensures) s.args.terms.now s.args.facts.now
-    p.new.1.1.1.0 q.new.1.1.1.0 p.ensures q.ensures
+    let i = c.in-Answer in
+    answer_left a.depth a.form.now c.requires.0.held i.verdict d.new.terms i.n d.new.facts i.m i.ensures a.terms.now a.facts.now
+    c.fill.new.table c.fill-in-Answer.new.table c.fill.ensures c.fill-in-Answer.ensures
 
 pub returns-in-Short : goal.returns-in-Short
-returns-in-Short c =
-    let s = c in
-    let d = c.judge-judgement in
-    (subst (JudgedAs s.args.depth s.args.form.now (length s.args.room.now) d.new.1.1.0 d.new.1.1.1.0) c.enum_told-1.given.1 d.ensures, refl, refl)
+returns-in-Short c = (c.in-Short.ensures, refl, refl)

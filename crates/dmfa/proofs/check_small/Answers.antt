@@ -5,7 +5,7 @@ use Rattle.facts.proofs.Kept.{kept_none}
 use Rattle.dmfa.proofs.check_small.Goals as goal
 
 pub check_by-requires : goal.check_by-requires
-check_by-requires c = let s = c in (s.requires, kept_terms_none 7680 (omega arith), kept_none 13318 2049 (omega arith) (omega arith))
+check_by-requires c = (c.requires, kept_terms_none 7680 (omega arith), kept_none 13318 2049 (omega arith) (omega arith))
 
 pub returns : goal.returns
 returns c = c.check_by.ensures

@@ -4,17 +4,12 @@ use mathlib.Core.Path.{◌≡◌, refl, sym, ap, ◌∙◌}
 use mathlib.Core.List.{List}
 use Prim.Native.Nat.{ℕ, ◌+◌, ◌-◌}
 use native.Mathlib.Omega.{arith}
-use lib.ListN.{length, get_or}
+use lib.ListN.{get_or}
 use lib.Seq.{sets}
-use Rattle.columns_model.specs.Differences.{difference, two_bytes}
+use Rattle.columns_model.specs.Differences.{two_bytes}
 use Rattle.columns_model.specs.Columns.{column}
-use Rattle.columns.proofs.ColumnsLeft.{Turn, turn_first, turn_next, Stands, turn_stands, column_left, column_done, column_step}
+use Rattle.columns.proofs.ColumnsLeft.{turn_first, turn_next, turn_stands, column_left, column_done, column_step}
 use Rattle.columns.proofs.laying.put_column.Goals as goal
-
-record Left (table : List ℕ) (w count j : ℕ) (out₀ : List ℕ) (at : ℕ) (out : List ℕ) (above place end i : ℕ) : Type 0 where
-  turn : Turn w count j at i place end
-  long : length out ≡ length out₀
-  left : sets out end (column_left table w above (count - i) place) ≡ sets out₀ at (column_left table w 0 count j)
 
 pub loop-i-init : goal.loop-i-init
 loop-i-init c =
@@ -26,52 +21,43 @@ loop-i-init c =
       left = ap (λ (k : ℕ). sets a.out.now a.at (column_left a.table.now a.shape.width 0 k a.j)) n;
     }
 
--- a turn reads within the table
-reads : (c : goal.In-loop-i)
-    → let a = c.args in
-    Stands a.shape.width (length a.table.now) c.loop-i.place
-reads c = let p = c.requires in turn_stands c.loop-i.invariant.turn c.loop-i-test.true p.column p.records
-
 pub offset_bounds-table-place : goal.offset_bounds-table-place
-offset_bounds-table-place c = let s = reads c in let g = c.well-formed.0 in omega arith
+offset_bounds-table-place c = let s = turn_stands c.loop-i.invariant.turn c.loop-i-test.true c.requires.column c.requires.records in let g = c.well_formed in omega arith
 
 pub bounds-table-place : goal.bounds-table-place
-bounds-table-place c = let s = reads c in omega arith
+bounds-table-place c = let s = turn_stands c.loop-i.invariant.turn c.loop-i-test.true c.requires.column c.requires.records in omega arith
 
 pub put_number-requires : goal.put_number-requires
 put_number-requires c = let p = c.requires in omega arith
 
 pub offset_bounds-table-place-in-loop-i : goal.offset_bounds-table-place-in-loop-i
 offset_bounds-table-place-in-loop-i c =
-    let l = c in
-    let s = reads l in
-    let g = l.well-formed.0 in
+    let s = turn_stands c.loop-i.invariant.turn c.loop-i-test.true c.requires.column c.requires.records in
+    let g = c.well_formed in
     omega arith
 
 pub bounds-table-place-in-loop-i : goal.bounds-table-place-in-loop-i
-bounds-table-place-in-loop-i c = let s = reads c in omega arith
+bounds-table-place-in-loop-i c = let s = turn_stands c.loop-i.invariant.turn c.loop-i-test.true c.requires.column c.requires.records in omega arith
 
 pub overflow_add-place : goal.overflow_add-place
-overflow_add-place c = let s = reads c in omega arith
+overflow_add-place c = let s = turn_stands c.loop-i.invariant.turn c.loop-i-test.true c.requires.column c.requires.records in omega arith
 
 pub overflow_add-end : goal.overflow_add-end
 overflow_add-end c = omega arith
 
 pub loop-i-preserved : goal.loop-i-preserved
 loop-i-preserved c =
-    let d = c in
-    let l = d in
-    let v = l.loop-i.invariant in
-    let a = l.args in
-    let x : ℕ = get_or a.table.now l.loop-i.place 0 in
-    let rest : List ℕ = column_left a.table.now a.shape.width x (a.shape.count - (l.loop-i.i + 1)) (l.loop-i.place + a.shape.width) in
+    let v = c.loop-i.invariant in
+    let a = c.args in
+    let x : ℕ = get_or a.table.now c.loop-i.place 0 in
+    let rest : List ℕ = column_left a.table.now a.shape.width x (a.shape.count - (c.loop-i.i + 1)) (c.loop-i.place + a.shape.width) in
     record {
-      turn = turn_next v.turn l.loop-i-test.true;
-      long = d.put_number.auto.1.0 ∙ v.long;
+      turn = turn_next v.turn c.loop-i-test.true;
+      long = c.put_number.auto.out ∙ v.long;
       left =
-          ap (λ (o : List ℕ). sets o (l.loop-i.end + 2) rest) d.put_number.ensures
-          ∙ ap (λ (d : ℕ). sets (sets l.loop-i.out l.loop-i.end (two_bytes d)) (l.loop-i.end + 2) rest) d.difference.ensures
-          ∙ column_step a.table.now a.shape.width l.loop-i.above (a.shape.count - l.loop-i.i) (a.shape.count - (l.loop-i.i + 1)) l.loop-i.place (l.loop-i.place + a.shape.width) l.loop-i.out l.loop-i.end (omega arith) refl
+          ap (λ (o : List ℕ). sets o (c.loop-i.end + 2) rest) c.put_number.ensures
+          ∙ ap (λ (d : ℕ). sets (sets c.loop-i.out c.loop-i.end (two_bytes d)) (c.loop-i.end + 2) rest) c.difference.ensures
+          ∙ column_step a.table.now a.shape.width c.loop-i.above (a.shape.count - c.loop-i.i) (a.shape.count - (c.loop-i.i + 1)) c.loop-i.place (c.loop-i.place + a.shape.width) c.loop-i.out c.loop-i.end (omega arith) refl
           ∙ v.left;
     }
 

@@ -7,13 +7,8 @@ use native.Mathlib.Omega.{arith}
 use lib.ListN.{length}
 use lib.Seq.{sets}
 use Rattle.columns_model.specs.Columns.{columns, laid}
-use Rattle.columns.proofs.ColumnsLeft.{ColumnTurn, column_first, column_next, column_room, columns_left, columns_done, columns_step}
+use Rattle.columns.proofs.ColumnsLeft.{column_first, column_next, column_room, columns_left, columns_done, columns_step}
 use Rattle.columns.proofs.laying.put_columns.Goals as goal
-
-record Left (table : List ℕ) (w count : ℕ) (out₀ : List ℕ) (at : ℕ) (out : List ℕ) (end j : ℕ) : Type 0 where
-  turn : ColumnTurn w count at j end
-  long : length out ≡ length out₀
-  left : sets out end (columns_left table w count (w - j) j) ≡ sets out₀ at (columns_left table w count w 0)
 
 pub loop-j-init : goal.loop-j-init
 loop-j-init c =
@@ -25,45 +20,34 @@ loop-j-init c =
       left = ap (λ (k : ℕ). sets a.out.now a.at (columns_left a.table.now a.shape.width a.shape.count k 0)) n;
     }
 
--- a turn has room for its column
-room : (c : goal.In-loop-j)
-    → let a = c.args in
-    c.loop-j.end + 2 * a.shape.count ≤ length c.loop-j.out
-room c =
-    let p = c.requires.room in
-    let v = c.loop-j.invariant in
-    let l = v.long in
-    column_room v.turn c.loop-j-test.true (omega arith)
-
 pub put_column-requires : goal.put_column-requires
 put_column-requires c =
     record {
       records = c.requires.records;
       column = c.loop-j-test.true;
-      room = room c;
+      room = column_room c.loop-j.invariant.turn c.loop-j-test.true (let p = c.requires.room in let l = c.loop-j.invariant.long in omega arith);
     }
 
 pub overflow_mul-end : goal.overflow_mul-end
-overflow_mul-end c = let h = room c in omega arith
+overflow_mul-end c = let h : c.loop-j.end + 2 * c.args.shape.count ≤ length c.loop-j.out = column_room c.loop-j.invariant.turn c.loop-j-test.true (let p = c.requires.room in let l = c.loop-j.invariant.long in omega arith) in omega arith
 
 pub overflow_add-end : goal.overflow_add-end
-overflow_add-end c = let h = room c in omega arith
+overflow_add-end c = let h : c.loop-j.end + 2 * c.args.shape.count ≤ length c.loop-j.out = column_room c.loop-j.invariant.turn c.loop-j-test.true (let p = c.requires.room in let l = c.loop-j.invariant.long in omega arith) in omega arith
 
 pub loop-j-preserved : goal.loop-j-preserved
 loop-j-preserved c =
-    let l = c in
-    let v = l.loop-j.invariant in
-    let a = l.args in
+    let v = c.loop-j.invariant in
+    let a = c.args in
     let w : ℕ = a.shape.width in
     let count : ℕ = a.shape.count in
-    let j : ℕ = l.loop-j.j in
-    let end : ℕ = l.loop-j.end in
+    let j : ℕ = c.loop-j.j in
+    let end : ℕ = c.loop-j.end in
     record {
-      turn = column_next v.turn l.loop-j-test.true;
-      long = c.put_column.auto.1.1.1.0 ∙ v.long;
+      turn = column_next v.turn c.loop-j-test.true;
+      long = c.put_column.auto.out ∙ v.long;
       left =
           ap (λ (o : List ℕ). sets o (end + 2 * count) (columns_left a.table.now w count (w - (j + 1)) (j + 1))) c.put_column.ensures
-          ∙ columns_step a.table.now w count (w - j) (w - (j + 1)) j l.loop-j.out end (omega arith)
+          ∙ columns_step a.table.now w count (w - j) (w - (j + 1)) j c.loop-j.out end (omega arith)
           ∙ v.left;
     }
 

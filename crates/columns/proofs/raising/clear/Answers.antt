@@ -1,17 +1,11 @@
 -- `columns::raising::clear` meets its contract. The loop's invariant: the zeros that are left, stored from here on, make the whole.
 -- Assumes nothing.
 use mathlib.Core.Path.{◌≡◌, refl, ap, ◌∙◌}
-use mathlib.Core.List.{List}
-use Prim.Native.Nat.{ℕ, suc, ◌+◌, ◌-◌, ◌≤◌}
+use Prim.Native.Nat.{ℕ, suc, ◌+◌, ◌-◌}
 use native.Mathlib.Omega.{arith}
-use lib.ListN.{length, set, replicate, length-set}
+use lib.ListN.{set, replicate, length-set}
 use lib.Seq.{sets}
 use Rattle.columns.proofs.raising.clear.Goals as goal
-
-record Left (table₀ : List ℕ) (from to : ℕ) (table : List ℕ) (i : ℕ) : Type 0 where
-  few : i ≤ to
-  long : length table ≡ length table₀
-  left : sets table i (replicate (to - i) 0) ≡ sets table₀ from (replicate (to - from) 0)
 
 pub loop-i-init : goal.loop-i-init
 loop-i-init c = record { few = c.requires.0; long = refl; left = refl }
@@ -42,4 +36,4 @@ returns c =
     ap (λ (k : ℕ). sets l.table l.i (replicate k 0)) n ∙ l.invariant.left
 
 pub offset_bounds-table-i : goal.offset_bounds-table-i
-offset_bounds-table-i c = let g = c.well-formed in omega arith
+offset_bounds-table-i c = let g = c.well_formed in omega arith

@@ -10,16 +10,15 @@ use Rattle.columns.proofs.raising.fill.Goals as goal
 
 pub returns : goal.returns
 returns c =
-    let s = c in
-    let a = s.args in
+    let a = c.args in
     let r = c.take_columns in
     let w = a.shape.width in
     let n = a.shape.count in
-    let p = s.requires.0.room in
+    let p = c.requires.has.room in
     let numbers : w * n ≤ length (numbers_of (drop a.at a.bytes.now)) =
     let e = length_numbers (drop a.at a.bytes.now) in
     let f = length-drop a.at a.bytes.now in
     omega arith
     in
     c.clear.ensures
-    ∙ front_filled w n a.front (numbers_of (drop a.at a.bytes.now)) a.table.now r.new.1.1.1.0 numbers s.requires.1.0 s.requires.1.1 r.ensures
+    ∙ front_filled w n a.front (numbers_of (drop a.at a.bytes.now)) a.table.now r.new.table numbers c.requires.width_bound.0 c.requires.width_bound.1 r.ensures

@@ -1,20 +1,14 @@
 -- `columns::raising::take_column` meets its contract. The loop's invariant: what is left of the column, stored from here on, makes the whole.
 -- Assumes nothing.
 use mathlib.Core.Path.{◌≡◌, refl, sym, ap, ◌∙◌}
-use mathlib.Core.List.{List}
-use Prim.Native.Nat.{ℕ, ◌+◌, ◌-◌, ◌≤◌}
+use Prim.Native.Nat.{ℕ, ◌+◌, ◌-◌}
 use native.Mathlib.Omega.{arith}
-use lib.ListN.{length, length-set}
+use lib.ListN.{length-set}
 use Rattle.columns_model.specs.Differences.{sum}
 use Rattle.columns.specs.Placed.{placed}
-use Rattle.columns.proofs.ColumnsLeft.{Turn, turn_first, turn_next, Stands, turn_stands}
+use Rattle.columns.proofs.ColumnsLeft.{turn_first, turn_next, turn_stands}
 use Rattle.columns.proofs.Placed.{sums_left, placed_done, placed_step}
 use Rattle.columns.proofs.raising.take_column.Goals as goal
-
-record Left (bytes : List ℕ) (at w count j : ℕ) (table₀ table : List ℕ) (above place next i : ℕ) : Type 0 where
-  turn : Turn w count j at i place next
-  long : length table ≡ length table₀
-  left : placed w (sums_left bytes above (count - i) next) place table ≡ placed w (sums_left bytes 0 count at) j table₀
 
 pub loop-i-init : goal.loop-i-init
 loop-i-init c =
@@ -26,46 +20,35 @@ loop-i-init c =
       left = ap (λ (k : ℕ). placed a.shape.width (sums_left a.bytes.now 0 k a.at) a.j a.table.now) n;
     }
 
--- a turn stores within the table
-stores : (c : goal.In-loop-i)
-    → let a = c.args in
-    Stands a.shape.width (length a.table.now) c.loop-i.place
-stores c = let p = c.requires in turn_stands c.loop-i.invariant.turn c.loop-i-test.true p.column p.records
-
--- and reads within the bytes
-reads : (c : goal.In-loop-i) → c.loop-i.next + 2 ≤ length c.args.bytes.now
-reads c = let p = c.requires in omega arith
-
 pub number_at-requires : goal.number_at-requires
-number_at-requires c = reads c
+number_at-requires c = let p = c.requires in omega arith
 
 pub offset_bounds-table-place : goal.offset_bounds-table-place
 offset_bounds-table-place c =
-    let s = stores c in
-    let g = c.well-formed in
+    let s = turn_stands c.loop-i.invariant.turn c.loop-i-test.true c.requires.column c.requires.records in
+    let g = c.well_formed in
     omega arith
 
 pub bounds-table-place : goal.bounds-table-place
-bounds-table-place c = let s = stores c in omega arith
+bounds-table-place c = let s = turn_stands c.loop-i.invariant.turn c.loop-i-test.true c.requires.column c.requires.records in omega arith
 
 pub overflow_add-place : goal.overflow_add-place
-overflow_add-place c = let s = stores c in omega arith
+overflow_add-place c = let s = turn_stands c.loop-i.invariant.turn c.loop-i-test.true c.requires.column c.requires.records in omega arith
 
 pub overflow_add-next : goal.overflow_add-next
-overflow_add-next c = let s = reads c in omega arith
+overflow_add-next c = let p = c.requires in omega arith
 
 pub loop-i-preserved : goal.loop-i-preserved
 loop-i-preserved c =
-    let l = c in
-    let v = l.loop-i.invariant in
-    let a = l.args in
-    let n = l.loop-i in
+    let v = c.loop-i.invariant in
+    let a = c.args in
+    let n = c.loop-i in
     record {
-      turn = turn_next v.turn l.loop-i-test.true;
+      turn = turn_next v.turn c.loop-i-test.true;
       long = simp length-set v.long;
       left =
           placed_step a.shape.width a.bytes.now n.above c.sum-above.result (a.shape.count - n.i) (a.shape.count - (n.i + 1)) n.next n.place n.table
-          (omega arith) (reads l) (c.sum-above.ensures ∙ ap (sum n.above) c.number_at.ensures)
+          (omega arith) (let p = c.requires in omega arith) (c.sum-above.ensures ∙ ap (sum n.above) c.number_at.ensures)
           ∙ v.left;
     }
 

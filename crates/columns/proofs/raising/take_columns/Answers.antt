@@ -2,18 +2,12 @@
 -- whole. Assumes nothing.
 use mathlib.Core.Path.{◌≡◌, refl, sym, ap, ◌∙◌}
 use mathlib.Core.List.{List}
-use Prim.Native.Nat.{ℕ, ◌+◌, ◌-◌, ◌*◌, ◌≤◌}
+use Prim.Native.Nat.{ℕ, ◌+◌, ◌-◌, ◌*◌}
 use native.Mathlib.Omega.{arith}
-use lib.ListN.{length}
 use Rattle.columns.specs.Placed.{placed_all}
-use Rattle.columns.proofs.ColumnsLeft.{ColumnTurn, column_first, column_next, column_room}
+use Rattle.columns.proofs.ColumnsLeft.{column_first, column_next, column_room}
 use Rattle.columns.proofs.Placed.{all_left, all_done, all_step}
 use Rattle.columns.proofs.raising.take_columns.Goals as goal
-
-record Left (bytes : List ℕ) (at w count : ℕ) (table₀ table : List ℕ) (next j : ℕ) : Type 0 where
-  turn : ColumnTurn w count at j next
-  long : length table ≡ length table₀
-  left : placed_all w (all_left bytes count (w - j) next) j table ≡ placed_all w (all_left bytes count w at) 0 table₀
 
 pub loop-j-init : goal.loop-j-init
 loop-j-init c =
@@ -25,39 +19,32 @@ loop-j-init c =
       left = ap (λ (k : ℕ). placed_all a.shape.width (all_left a.bytes.now a.shape.count k a.at) 0 a.table.now) n;
     }
 
--- a turn has the bytes of its column
-reads : (c : goal.In-loop-j)
-    → let a = c.args in
-    c.loop-j.next + 2 * a.shape.count ≤ length a.bytes.now
-reads c = column_room c.loop-j.invariant.turn c.loop-j-test.true c.requires.room
-
 pub take_column-requires : goal.take_column-requires
 take_column-requires c =
     let p = c.requires.records in
     let l = c.loop-j.invariant.long in
-    record { records = omega arith; column = c.loop-j-test.true; room = reads c }
+    record { records = omega arith; column = c.loop-j-test.true; room = column_room c.loop-j.invariant.turn c.loop-j-test.true c.requires.room }
 
 pub overflow_mul-next : goal.overflow_mul-next
-overflow_mul-next c = let h = reads c in omega arith
+overflow_mul-next c = let h = column_room c.loop-j.invariant.turn c.loop-j-test.true c.requires.room in omega arith
 
 pub overflow_add-next : goal.overflow_add-next
-overflow_add-next c = let h = reads c in omega arith
+overflow_add-next c = let h = column_room c.loop-j.invariant.turn c.loop-j-test.true c.requires.room in omega arith
 
 pub loop-j-preserved : goal.loop-j-preserved
 loop-j-preserved c =
-    let l = c in
-    let v = l.loop-j.invariant in
-    let a = l.args in
+    let v = c.loop-j.invariant in
+    let a = c.args in
     let w : ℕ = a.shape.width in
     let count : ℕ = a.shape.count in
-    let j : ℕ = l.loop-j.j in
-    let next : ℕ = l.loop-j.next in
+    let j : ℕ = c.loop-j.j in
+    let next : ℕ = c.loop-j.next in
     record {
-      turn = column_next v.turn l.loop-j-test.true;
-      long = c.take_column.auto.1.1.1.1.0 ∙ v.long;
+      turn = column_next v.turn c.loop-j-test.true;
+      long = c.take_column.auto.table ∙ v.long;
       left =
           ap (λ (t : List ℕ). placed_all w (all_left a.bytes.now count (w - (j + 1)) (next + 2 * count)) (j + 1) t) c.take_column.ensures
-          ∙ all_step w a.bytes.now count (w - j) (w - (j + 1)) next j l.loop-j.table (omega arith)
+          ∙ all_step w a.bytes.now count (w - j) (w - (j + 1)) next j c.loop-j.table (omega arith)
           ∙ v.left;
     }
 

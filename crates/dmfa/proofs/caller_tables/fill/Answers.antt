@@ -12,8 +12,7 @@ put-requires c = let a = c.args in let e = length-take-le a.n a.records.now (ome
 
 pub returns : goal.returns
 returns c =
-    let s = c in
-    let a = s.args in
+    let a = c.args in
     let p = c.put in
     let r = c.clear in
-    front_filled a.records.now a.table.now a.n a.front (omega arith) (omega arith) (omega arith) p.new.0 r.new.0 p.ensures r.ensures
+    front_filled a.records.now a.table.now a.n a.front (omega arith) (omega arith) (omega arith) p.new.table r.new.table p.ensures r.ensures

@@ -1,6 +1,6 @@
 -- `text::records::write_fact_lines` meets its contract. The loop's invariant: the first `i` lines are written. Assumes nothing.
 use mathlib.Core.Path.{◌≡◌, refl, ◌∙◌}
-use Prim.Native.Nat.{ℕ, ◌-◌}
+use Prim.Native.Nat.{ℕ}
 use native.Mathlib.Omega.{arith}
 use Rattle.model.specs.Text.{line, fact_word, fact_numbers, lines}
 use Rattle.text.proofs.Writing.{writes_none, writes_append}
@@ -16,29 +16,24 @@ loop-i-init c =
 
 pub write_fact_line-o-requires : goal.write_fact_line-o-requires
 write_fact_line-o-requires c =
-    let l = c in
-    let s = l in
-    let e = l.loop-i.invariant.1.next in
-    let k = l.loop-i.invariant.2 in
-    let w = lines_within (λ (i : ℕ). line fact_word (fact_numbers s.args.arities.now s.args.facts.now i)) s.args.count l.loop-i.i c.loop-i-test.true in
-    let p = s.requires.1 in
-    (fewer_facts s.requires.0 _ (omega arith), omega arith)
+    let e = c.loop-i.invariant.1.next in
+    let k = c.loop-i.invariant.2 in
+    let w = lines_within (λ (i : ℕ). line fact_word (fact_numbers c.args.arities.now c.args.facts.now i)) c.args.count c.loop-i.i c.loop-i-test.true in
+    let p = c.requires.1 in
+    (fewer_facts c.requires.0 _ (omega arith), omega arith)
 
 pub loop-i-preserved : goal.loop-i-preserved
-loop-i-preserved c =
-    let l = c in
-    let s = l in (
-      omega arith,
-      rw (lines_more (λ (i : ℕ). line fact_word (fact_numbers s.args.arities.now s.args.facts.now i)) l.loop-i.i)
-          (writes_append l.loop-i.invariant.1 c.write_fact_line-o.ensures (omega arith)),
-      c.write_fact_line-o.auto.1.1.1.0 ∙ l.loop-i.invariant.2,
-    )
+loop-i-preserved c = (
+  omega arith,
+  rw (lines_more (λ (i : ℕ). line fact_word (fact_numbers c.args.arities.now c.args.facts.now i)) c.loop-i.i)
+      (writes_append c.loop-i.invariant.1 c.write_fact_line-o.ensures (omega arith)),
+  c.write_fact_line-o.auto.out ∙ c.loop-i.invariant.2,
+)
 
 pub shape_of-out : goal.shape_of-out
 shape_of-out c = c.loop-i.invariant.2
 
 pub returns : goal.returns
 returns c =
-    let l = c in
-    let e : l.loop-i.i ≡ l.args.count = omega arith in
-    rw e at l.loop-i.invariant.1
+    let e : c.loop-i.i ≡ c.args.count = omega arith in
+    rw e at c.loop-i.invariant.1

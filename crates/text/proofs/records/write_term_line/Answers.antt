@@ -4,48 +4,47 @@ use Prim.Native.Nat.{ℕ}
 use native.Mathlib.Omega.{arith}
 use Rattle.model.specs.Text.{decimal, term_word, term_numbers}
 use Rattle.laws_tables.specs.Lines.{spaced}
-use Rattle.text.specs.Writing.{Room}
 use Rattle.text.proofs.Writing.{room_first, room_behind, writes_append}
 use Rattle.text.proofs.Lines.{line_numbered}
 use Rattle.text.proofs.records.write_term_line.Goals as goal
 
-abbrev number : goal.Start → List ℕ
-number s = 32 ∷ decimal s.args.i
-
-abbrev ending : goal.Start → List ℕ
-ending s = spaced (term_numbers s.args.terms.now s.args.i) ++ (10 ∷ [])
-
-roomy : (s : goal.Start) → Room (term_word ++ (number s ++ ending s)) s.args.at s.args.out.now
-roomy s = rw (line_numbered term_word s.args.i (term_numbers s.args.terms.now s.args.i)) at s.requires.1
-
-behind-word : (w : goal.After-write_word-behind_word) → let s = w in Room (number s ++ ending s) w.write_word-behind_word.result w.write_word-behind_word.new.1.0
-behind-word w =
-    let s = w in
-    room_behind (number s ++ ending s) w.write_word-behind_word.ensures (roomy s) w.write_word-behind_word.auto.1.0
-
 pub write_word-behind_word-requires : goal.write_word-behind_word-requires
 write_word-behind_word-requires c =
-    let s = c in
-    room_first term_word (number s ++ ending s) s.args.at s.args.out.now (roomy s)
+    let a = c.args in
+    let number : List ℕ = 32 ∷ decimal a.i in
+    let ending : List ℕ = spaced (term_numbers a.terms.now a.i) ++ (10 ∷ []) in
+    let roomy = rw (line_numbered term_word a.i (term_numbers a.terms.now a.i)) at c.requires.1 in
+    room_first term_word (number ++ ending) a.at a.out.now roomy
 
 pub write_number-behind_number-requires : goal.write_number-behind_number-requires
 write_number-behind_number-requires c =
-    let w = c in
-    let s = w in
-    room_first (number s) (ending s) w.write_word-behind_word.result w.write_word-behind_word.new.1.0 (behind-word w)
+    let a = c.args in
+    let number : List ℕ = 32 ∷ decimal a.i in
+    let ending : List ℕ = spaced (term_numbers a.terms.now a.i) ++ (10 ∷ []) in
+    let roomy = rw (line_numbered term_word a.i (term_numbers a.terms.now a.i)) at c.requires.1 in
+    let w = c.write_word-behind_word in
+    let behind = room_behind (number ++ ending) w.ensures roomy w.auto.out in
+    room_first number ending w.result w.new.out behind
 
 pub write_term-requires : goal.write_term-requires
 write_term-requires c =
-    let s = c in
+    let a = c.args in
+    let number : List ℕ = 32 ∷ decimal a.i in
+    let ending : List ℕ = spaced (term_numbers a.terms.now a.i) ++ (10 ∷ []) in
+    let roomy = rw (line_numbered term_word a.i (term_numbers a.terms.now a.i)) at c.requires.1 in
+    let w = c.write_word-behind_word in
+    let behind = room_behind (number ++ ending) w.ensures roomy w.auto.out in
     let n = c.write_number-behind_number in
-    (s.requires.0, room_behind (ending s) n.ensures (behind-word c) n.auto.1.0)
+    (c.requires.0, room_behind ending n.ensures behind n.auto.out)
 
 pub returns : goal.returns
 returns c =
-    let n = c in
-    let w = n in
-    let s = w in
-    let p = s.requires.1 in
-    let r = behind-word w in
-    rw (line_numbered term_word s.args.i (term_numbers s.args.terms.now s.args.i))
-    (writes_append w.write_word-behind_word.ensures (writes_append n.write_number-behind_number.ensures c.write_term.ensures (omega arith)) (omega arith))
+    let a = c.args in
+    let number : List ℕ = 32 ∷ decimal a.i in
+    let ending : List ℕ = spaced (term_numbers a.terms.now a.i) ++ (10 ∷ []) in
+    let roomy = rw (line_numbered term_word a.i (term_numbers a.terms.now a.i)) at c.requires.1 in
+    let w = c.write_word-behind_word in
+    let behind = room_behind (number ++ ending) w.ensures roomy w.auto.out in
+    let p = c.requires.1 in
+    rw (line_numbered term_word a.i (term_numbers a.terms.now a.i))
+    (writes_append w.ensures (writes_append c.write_number-behind_number.ensures c.write_term.ensures (omega arith)) (omega arith))

@@ -1,7 +1,7 @@
 -- `text::records::write_term_lines` meets its contract. The loop's invariant: the first `i` lines are written. Assumes nothing.
 use mathlib.Core.Path.{◌≡◌, refl, ◌∙◌}
 use mathlib.Core.List.{◌∷◌}
-use Prim.Native.Nat.{ℕ, ◌-◌}
+use Prim.Native.Nat.{ℕ}
 use native.Mathlib.Omega.{arith}
 use Rattle.model.specs.Text.{line, term_word, term_numbers, lines}
 use Rattle.text.proofs.Writing.{writes_none, writes_append}
@@ -17,29 +17,24 @@ loop-i-init c =
 
 pub write_term_line-o-requires : goal.write_term_line-o-requires
 write_term_line-o-requires c =
-    let l = c in
-    let s = l in
-    let e = l.loop-i.invariant.1.next in
-    let k = l.loop-i.invariant.2 in
-    let w = lines_within (λ (i : ℕ). line term_word (i ∷ term_numbers s.args.terms.now i)) s.args.count l.loop-i.i c.loop-i-test.true in
-    let p = s.requires.1 in
-    (fewer_terms s.requires.0 _ (omega arith), omega arith)
+    let e = c.loop-i.invariant.1.next in
+    let k = c.loop-i.invariant.2 in
+    let w = lines_within (λ (i : ℕ). line term_word (i ∷ term_numbers c.args.terms.now i)) c.args.count c.loop-i.i c.loop-i-test.true in
+    let p = c.requires.1 in
+    (fewer_terms c.requires.0 _ (omega arith), omega arith)
 
 pub loop-i-preserved : goal.loop-i-preserved
-loop-i-preserved c =
-    let l = c in
-    let s = l in (
-      omega arith,
-      rw (lines_more (λ (i : ℕ). line term_word (i ∷ term_numbers s.args.terms.now i)) l.loop-i.i)
-          (writes_append l.loop-i.invariant.1 c.write_term_line-o.ensures (omega arith)),
-      c.write_term_line-o.auto.1.1.0 ∙ l.loop-i.invariant.2,
-    )
+loop-i-preserved c = (
+  omega arith,
+  rw (lines_more (λ (i : ℕ). line term_word (i ∷ term_numbers c.args.terms.now i)) c.loop-i.i)
+      (writes_append c.loop-i.invariant.1 c.write_term_line-o.ensures (omega arith)),
+  c.write_term_line-o.auto.out ∙ c.loop-i.invariant.2,
+)
 
 pub shape_of-out : goal.shape_of-out
 shape_of-out c = c.loop-i.invariant.2
 
 pub returns : goal.returns
 returns c =
-    let l = c in
-    let e : l.loop-i.i ≡ l.args.count = omega arith in
-    rw e at l.loop-i.invariant.1
+    let e : c.loop-i.i ≡ c.args.count = omega arith in
+    rw e at c.loop-i.invariant.1

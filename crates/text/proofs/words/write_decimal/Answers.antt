@@ -14,17 +14,14 @@ loop-i-init c =
 
 pub loop-i-preserved : goal.loop-i-preserved
 loop-i-preserved c =
-    let l = c in
-    (spelling_more l.loop-i.invariant.0 l.requires c.loop-i-test.true, simp length-set l.loop-i.invariant.1)
+    (spelling_more c.loop-i.invariant.0 c.requires c.loop-i-test.true, simp length-set c.loop-i.invariant.1)
 
 pub shape_of-out : goal.shape_of-out
 shape_of-out c = c.loop-i.invariant.1
 
 pub returns : goal.returns
 returns c =
-    let l = c in
-    let d = l in
     record {
-      left = spelling_end l.loop-i.invariant.0 (omega arith);
-      next = ap (λ (k : ℕ). d.args.at + k) d.digit_count-count.ensures;
+      left = spelling_end c.loop-i.invariant.0 (omega arith);
+      next = ap (λ (k : ℕ). c.args.at + k) c.digit_count-count.ensures;
     }

@@ -9,7 +9,7 @@ pub write_decimal-requires : goal.write_decimal-requires
 write_decimal-requires c = simp length-set (omega arith)
 
 pub shape_of-out : goal.shape_of-out
-shape_of-out c = c.write_decimal.auto.1.0 ∙ simp length-set
+shape_of-out c = c.write_decimal.auto.out ∙ simp length-set
 
 pub returns : goal.returns
 returns c =

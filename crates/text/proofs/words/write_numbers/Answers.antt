@@ -2,7 +2,7 @@
 -- Assumes nothing.
 use mathlib.Core.Path.{refl, ◌∙◌}
 use mathlib.Core.List.{◌∷◌}
-use Prim.Native.Nat.{ℕ, ◌-◌}
+use Prim.Native.Nat.{ℕ}
 use native.Mathlib.Omega.{arith}
 use lib.Seq.{take_all}
 use Rattle.model.specs.Lists.{collect}
@@ -17,32 +17,24 @@ loop-i-init c =
     let a = c.args in
     (omega arith, writes_none a.at a.out.now, refl)
 
-pub overflow_cast-numbers : goal.overflow_cast-numbers
-overflow_cast-numbers c = omega (arith, c.shared_slice_known-in-loop-i-1.given c.loop-i.i)
-
 pub write_number-o-requires : goal.write_number-o-requires
 write_number-o-requires c =
-    let l = c in
-    let s = l in
-    let e = l.loop-i.invariant.1.next in
-    let w = collect_within (λ (n : ℕ). 32 ∷ decimal n) s.args.numbers.now l.loop-i.i c.loop-i-test.true in
+    let e = c.loop-i.invariant.1.next in
+    let w = collect_within (λ (n : ℕ). 32 ∷ decimal n) c.args.numbers.now c.loop-i.i c.loop-i-test.true in
     omega arith
 
 pub loop-i-preserved : goal.loop-i-preserved
-loop-i-preserved c =
-    let l = c in
-    let s = l in (
-      omega arith,
-      rw (collect_more (λ (n : ℕ). 32 ∷ decimal n) s.args.numbers.now l.loop-i.i (omega arith))
-          (writes_append l.loop-i.invariant.1 c.write_number-o.ensures (omega arith)),
-      c.write_number-o.auto.1.0 ∙ l.loop-i.invariant.2,
-    )
+loop-i-preserved c = (
+  omega arith,
+  rw (collect_more (λ (n : ℕ). 32 ∷ decimal n) c.args.numbers.now c.loop-i.i (omega arith))
+      (writes_append c.loop-i.invariant.1 c.write_number-o.ensures (omega arith)),
+  c.write_number-o.auto.out ∙ c.loop-i.invariant.2,
+)
 
 pub shape_of-out : goal.shape_of-out
 shape_of-out c = c.loop-i.invariant.2
 
 pub returns : goal.returns
 returns c =
-    let l = c in
-    let a = l.args in
-    rw (take_all l.loop-i.i a.numbers.now c.loop-i-test.false) at l.loop-i.invariant.1
+    let a = c.args in
+    rw (take_all c.loop-i.i a.numbers.now c.loop-i-test.false) at c.loop-i.invariant.1
