@@ -1,4 +1,4 @@
-/* Rulfjen for C: the functions of target/staticlib/libembed.a, which `rt staticlib embed` proves and builds.
+/* Rulfjen for C: the functions of target/staticlib/libembed.a, which `tools/libraries` proves and builds.
  *
  * Only numbers and lists cross. A list is a pointer and the count of its elements, and must be that long; the pointer is
  * not null, even where the count is 0. Lists of one call do not overlap. Everything else is tested by the library,

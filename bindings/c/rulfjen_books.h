@@ -1,4 +1,4 @@
-/* Rulfjen's converters for C: the functions of target/staticlib/libembed_books.a, which `rt staticlib embed_books` proves
+/* Rulfjen's converters for C: the functions of target/staticlib/libembed_books.a, which `tools/libraries` proves
  * and builds. What rulfjen.h says of lists, threads and memory holds here too.
  *
  * Version 1 of a book has up to 64 predicates, and its count of predicates and predicate numbers are single bytes. Version 2

@@ -1,4 +1,4 @@
-/* Rulfjen's stores for C: the functions of target/staticlib/libembed_columns.a, which `rt staticlib embed_columns` proves
+/* Rulfjen's stores for C: the functions of target/staticlib/libembed_columns.a, which `tools/libraries` proves
  * and builds. What rulfjen.h says of lists, threads and memory holds here too; these functions have no tables of their
  * own on the stack.
  */

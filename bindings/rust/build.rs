@@ -1,4 +1,4 @@
-//! Links the static libraries from RULFJEN_LIB_DIR, or from where `rt staticlib` leaves them.
+//! Links the static libraries from RULFJEN_LIB_DIR, or from where `tools/libraries` leaves them.
 
 use std::path::PathBuf;
 
