@@ -1,11 +1,9 @@
 -- What a call left, from the answer of the function that it called. Assumes nothing.
-use mathlib.Core.Path.{◌≡◌, sym, ap}
+use mathlib.Core.Path.{◌≡◌, sym}
 use mathlib.Core.List.{List}
 use Prim.Native.Nat.{ℕ}
 use Rattle.model.specs.Form.{Transfer}
 use Rattle.model.specs.Stages.{Verdict}
-use Rattle.judging.specs.declared.verdict.Verdict as Declared
-use Rattle.judging.specs.Verdict.{meant}
 use Rattle.embed.specs.Numbers.{of_checked, verdict_number, verdict_values, transferred, transfer_number, transfer_value}
 
 -- the number of a verdict, and its three values

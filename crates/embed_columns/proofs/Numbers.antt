@@ -1,11 +1,9 @@
 -- What a call left, from the answer of the function that it called. Assumes nothing.
-use mathlib.Core.Path.{◌≡◌, sym, ap}
+use mathlib.Core.Path.{◌≡◌, sym}
 use mathlib.Core.List.{List}
 use Prim.Native.Nat.{ℕ}
 use Rattle.model.specs.Form.{Transfer}
 use Rattle.columns_model.specs.Store.{Answer}
-use Rattle.columns.specs.Contract.{answer_of}
-use Rattle.columns.specs.declared.Unpacked.{Unpacked}
 use Rattle.embed_columns.specs.Numbers.{pack_number, pack_value, unpack_number, unpack_values, of_packed, of_unpacked}
 
 -- both numbers of a transfer

@@ -1,13 +1,11 @@
 -- `dmfa::check` meets its contract: the refusals in their order, then the answer on the form that was read. Assumes nothing.
-use mathlib.Core.Path.{◌≡◌, refl, sym, ◌∙◌, subst}
+use mathlib.Core.Path.{refl, sym, ◌∙◌}
 use mathlib.Core.Logic.{inl, inr}
 use native.Mathlib.Omega.{arith}
-use Rattle.model.specs.Form.{form_length, done, reading}
-use Rattle.reader.specs.declared.Transfer.{Transfer}
-use Rattle.reader.specs.Transfer.{ReadsAfresh}
+use Rattle.model.specs.Form.{form_length}
 use Rattle.reader.proofs.Reading.{zeros_long}
 use Rattle.parsing.specs.Step.{zeros}
-use Rattle.laws_tables.specs.Lent.{Fronts, Depth}
+use Rattle.laws_tables.specs.Lent.{Fronts}
 use Rattle.laws_tables.proofs.Courses.{checked_short, checked_shallow}
 use Rattle.dmfa.proofs.Checking.{depth_told, no_depth_told, checked_refused, form_held, checked_left}
 use Rattle.dmfa.proofs.check.Goals as goal

@@ -1,9 +1,6 @@
 -- `dmfa::check_by` meets its contract. Assumes nothing.
-use mathlib.Core.Path.{refl, subst}
-use Prim.Native.Nat.{◌≤◌}
+use mathlib.Core.Path.{refl}
 use native.Mathlib.Omega.{arith}
-use lib.ListN.{length}
-use Rattle.judging.specs.Judging.{JudgedAs}
 use Rattle.dmfa.proofs.Checking.{answer_few, answer_left}
 use Rattle.dmfa.proofs.check_by.Goals as goal
 

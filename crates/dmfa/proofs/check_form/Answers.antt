@@ -10,8 +10,6 @@ use Rattle.form_functions.specs.Functions.{places, numbering, Numbered}
 use Rattle.form.proofs.Places.{few_rules}
 use Rattle.form_functions.proofs.Numbering.{numbering_numbered}
 use Rattle.rows.specs.Judging.{judged, left_by}
-use Rattle.dmfa.specs.Checking.{small_room, CheckedAs}
-use Rattle.dmfa.specs.declared.Checked.{Checked}
 use Rattle.dmfa.proofs.check_form.Goals as goal
 
 -- the functions are numbered

@@ -1,10 +1,7 @@
 -- `dmfa::check_large` meets its contract. Assumes nothing.
-use mathlib.Core.Path.{subst}
 use native.Mathlib.Omega.{arith}
 use Rattle.terms.proofs.Kept.{kept_terms_none}
 use Rattle.facts.proofs.Kept.{kept_none}
-use Rattle.dmfa.specs.Checking.{CheckedAs}
-use Rattle.dmfa.specs.declared.Checked.{Checked}
 use Rattle.dmfa.proofs.check_large.Goals as goal
 
 -- the room is not short
