@@ -10,4 +10,4 @@ slice_bounds-out-end c = search rules
 pub slice_bounds-write_all-end : goal.slice_bounds-write_all-end
 slice_bounds-write_all-end c =
     let w = c in
-    sym (length-take-le w.write_text-n.result w.write_text-n.new.1.1.1.1.0 (slice_bounds-out-end c))
+    sym (length-take-le w.write_text-n.result w.write_text-n.new.out (slice_bounds-out-end c))
