@@ -3,7 +3,7 @@
 // that are asked for, `+` for longer ones, `t`, `f` or `o` where the terms, the facts or the store's bytes are one short.
 ghost use Rattle.std.specs.Prelude.{◌+◌, ◌≤◌, length, IfOk};
 
-use crate::tables::FILE_ROOM;
+use crate::lists::FILE_ROOM;
 use crate::{packing, unpacking};
 use std::io;
 use test_support::column::find;

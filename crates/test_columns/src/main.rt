@@ -5,8 +5,8 @@
 #![tactic(auto)]
 
 mod case;
+mod lists;
 mod packing;
-mod tables;
 mod unpacking;
 
 use std::io;

@@ -2,7 +2,7 @@
 ghost use Rattle.std.specs.Prelude.{◌≤◌, length};
 
 use crate::case::{MORE, room};
-use crate::tables;
+use crate::lists;
 use columns::{FACTS_FRONT, STORE_ROOM, TERMS_FRONT, pack};
 use std::io;
 use test_support::answer::{Answer, is_other, shown};
@@ -56,8 +56,8 @@ pub fn differs(
     let mut term_list = [0u16; TERMS_FRONT + MORE];
     let mut fact_list = [0u16; FACTS_FRONT + MORE];
     let mut out = [bytes::MARK; STORE_ROOM + MORE];
-    tables::put(terms, TERMS_FRONT, &mut term_list[..]);
-    tables::put(facts, FACTS_FRONT, &mut fact_list[..]);
+    lists::put(terms, TERMS_FRONT, &mut term_list[..]);
+    lists::put(facts, FACTS_FRONT, &mut fact_list[..]);
     let t = room(lists, b't', TERMS_FRONT);
     let f = room(lists, b'f', FACTS_FRONT);
     let o = room(lists, b'o', STORE_ROOM);

@@ -2,7 +2,7 @@
 ghost use Rattle.std.specs.Prelude.{◌≤◌, length};
 
 use crate::case::{MORE, room};
-use crate::tables;
+use crate::lists;
 use columns::{FACTS_FRONT, TERMS_FRONT, Unpacked, unpack};
 use std::io;
 use test_support::column::{four, two};
@@ -42,10 +42,10 @@ fn are_right(line: &[u8], terms: &[u8], facts: &[u8], term_list: &[u16], fact_li
     if two(line, 4) != 0 {
         return numbers::is_marked(term_list) && numbers::is_marked(fact_list);
     }
-    if !tables::is_right(terms, TERMS_FRONT, term_list) {
+    if !lists::is_right(terms, TERMS_FRONT, term_list) {
         return false;
     }
-    tables::is_right(facts, FACTS_FRONT, fact_list)
+    lists::is_right(facts, FACTS_FRONT, fact_list)
 }
 
 // Whether the answer or a table differs.

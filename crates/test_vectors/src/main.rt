@@ -5,8 +5,8 @@
 // book has a 3 there are none before C-16.
 #![tactic(auto)]
 
+mod lists;
 mod printing;
-mod tables;
 
 use std::io;
 use test_support::column::line_end;

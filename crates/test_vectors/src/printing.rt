@@ -1,10 +1,10 @@
-// A case `L DDDD TTTT FFFF BOOK TEXT` of `print`: which lists it is lent, the depth, what it leaves of the tables, as `tables` says, the book's
+// A case `L DDDD TTTT FFFF BOOK TEXT` of `print`: which lists it is lent, the depth, what it leaves of the tables, as `lists` says, the book's
 // file, and the file of the text. L is `=` for lists of the lengths that `print` asks for, `+` for longer ones, `t`, `f` or `o` where the terms,
 // the facts or the text's bytes are one short: then the answer is refusal 1 at place 0. It is `d` where the number is no depth, and the answer
 // refusal 18. Neither touches anything.
 ghost use Rattle.std.specs.Prelude.{◌+◌, ◌<◌, ◌≤◌, length};
 
-use crate::tables;
+use crate::lists;
 use report::{FACTS_FRONT, TERMS_FRONT, TEXT_ROOM, print};
 use std::io;
 use test_support::answer::{Answer, is_other, shown};
@@ -84,7 +84,7 @@ fn compared(
         say::note(rt, line, b"another text")?;
         return Ok(true);
     }
-    if tables::are_right(&line[TABLES_COLUMN..], terms, facts) {
+    if lists::are_right(&line[TABLES_COLUMN..], terms, facts) {
         return Ok(false);
     }
     say::note(rt, line, b"other tables")?;

@@ -1,7 +1,7 @@
--- `test_columns::tables::is_right` is safe and ends. Assumes nothing.
+-- `test_columns::lists::is_right` is safe and ends. Assumes nothing.
 use Prim.Native.Nat.{◌-◌}
 use lib.ListN.{length}
-use Rattle.test_columns.proofs.tables.is_right.Given as goal
+use Rattle.test_columns.proofs.lists.is_right.Given as goal
 
 abbrev pub invariant-loop-k : goal.invariant-loop-k
 invariant-loop-k l = Unit {0}
