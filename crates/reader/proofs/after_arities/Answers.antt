@@ -20,15 +20,15 @@ use Rattle.reader.proofs.after_arities.Goals.{Start, After-copy, After-rules-rea
 wide : (c : Start) → length (first c.args.form.now (length c.args.arities.now) c.args.version) ≡ 7812
 wide c = first_length c.args.form.now (length c.args.arities.now) c.args.version c.requires.form_value
 
-places-length : (c : After-copy) → length c.copy.new.to ≡ 1024
-places-length c = c.copy.auto.to ∙ zeros_length 1024 _ (places_zeros c.args.form.now (length c.args.arities.now) c.args.version c.requires.form_value)
+places_length : (c : After-copy) → length c.copy.new.to ≡ 1024
+places_length c = c.copy.auto.to ∙ zeros_length 1024 _ (places_zeros c.args.form.now (length c.args.arities.now) c.args.version c.requires.form_value)
 
 abbrev whole : After-rules-read → List ℕ
 whole c = ruled c.args.form.now (length c.args.arities.now) c.args.version c.copy.new.to c.rules-read.new.row
 
 whole_length : (c : After-rules-read) → length (whole c) ≡ length c.args.form.now
 whole_length c =
-    ruled_length c.args.form.now (length c.args.arities.now) c.args.version c.requires.form_value c.copy.new.to (places-length (goal.at.After-rules-read c).After-copy) c.rules-read.new.row c.rules-read.auto.row
+    ruled_length c.args.form.now (length c.args.arities.now) c.args.version c.requires.form_value c.copy.new.to (places_length (goal.at.After-rules-read c).After-copy) c.rules-read.new.row c.rules-read.auto.row
     ∙ sym (zeros_length 7812 _ c.requires.form_value)
 
 read : (c : In-Good) → Parses none (parsed_rules c.args.bytes.now (signed c.args.version c.args.arities.now) c.args.i) c.in-Good.field-0 c.in-Good.end
@@ -55,10 +55,10 @@ copy-requires c =
     omega arith
 
 pub slice_bounds-rules-end : goal.slice_bounds-rules-end
-slice_bounds-rules-end c = omega (arith, listed_length c.args.form.now (length c.args.arities.now) c.args.version c.requires.form_value c.copy.new.to (places-length (goal.at.slice_bounds-rules-end c).After-copy))
+slice_bounds-rules-end c = omega (arith, listed_length c.args.form.now (length c.args.arities.now) c.args.version c.requires.form_value c.copy.new.to (places_length (goal.at.slice_bounds-rules-end c).After-copy))
 
 pub rules-read-requires : goal.rules-read-requires
-rules-read-requires c = record { arities = c.requires.arities; row_value = rules_zeros c.args.form.now (length c.args.arities.now) c.args.version c.requires.form_value c.copy.new.to (places-length (goal.at.rules-read-requires c).After-copy) }
+rules-read-requires c = record { arities = c.requires.arities; row_value = rules_zeros c.args.form.now (length c.args.arities.now) c.args.version c.requires.form_value c.copy.new.to (places_length (goal.at.rules-read-requires c).After-copy) }
 
 pub shape_of-form-in_default : goal.shape_of-form-in_default
 shape_of-form-in_default c = whole_length (goal.at.shape_of-form-in_default c).After-rules-read

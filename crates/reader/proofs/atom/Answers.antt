@@ -16,8 +16,8 @@ read : (c : In-Good)
     → number (wide c.args.version) c.args.bytes.now 0 (length c.args.arities.now - 1) 7 c.args.i ≡ good c.in-Good.p c.in-Good.j
 read c = wide_good _ _ _ (sym c.in-Good.is ∙ c.number.ensures)
 
-read-declared : (c : In-Good) → c.in-Good.p < length c.args.arities.now
-read-declared c =
+read_declared : (c : In-Good) → c.in-Good.p < length c.args.arities.now
+read_declared c =
     let h = number_good _ _ _ _ _ _ _ _ (read c) in
     let s = c.requires.arities.some in
     omega arith
@@ -26,7 +26,7 @@ pub bounds-row-0 : goal.bounds-row-0
 bounds-row-0 c = omega (arith, zeros_length 5 _ c.requires.row_value)
 
 pub bounds-arities-p : goal.bounds-arities-p
-bounds-arities-p c = read-declared (goal.at.bounds-arities-p c).In-Good
+bounds-arities-p c = read_declared (goal.at.bounds-arities-p c).In-Good
 
 pub overflow_cast-n-in-Good : goal.overflow_cast-n-in-Good
 overflow_cast-n-in-Good c = omega (arith, c.requires.arities.small c.in-Good.p)

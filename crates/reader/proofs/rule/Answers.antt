@@ -17,8 +17,8 @@ use Rattle.reader.proofs.rule.Goals.{After-atoms-body, In-Good, In-Good-count, A
 
 -- what the places of the code have: the width of the body's part of the row, the body, the count, and then the whole row and the head
 
-left-length : (c : After-atoms-body) → length c.atoms-body.new.row ≡ 21
-left-length c = body_length c.args.row.now c.requires.row_value c.atoms-body.new.row c.atoms-body.auto.row
+left_length : (c : After-atoms-body) → length c.atoms-body.new.row ≡ 21
+left_length c = body_length c.args.row.now c.requires.row_value c.atoms-body.new.row c.atoms-body.auto.row
 
 body : (c : In-Good) → Parses atoms_set (atoms c.args.bytes.now (signed c.args.version c.args.arities.now) c.args.i) c.in-Good.set c.in-Good.j
 body c = step_good atoms_set _ _ _ (sym c.in-Good.is ∙ c.atoms-body.ensures.answer)
@@ -26,11 +26,11 @@ body c = step_good atoms_set _ _ _ (sym c.in-Good.is ∙ c.atoms-body.ensures.an
 count : (c : In-Good-count) → byte c.args.bytes.now 1 4 6 c.in-Good.j ≡ good c.in-Good-count.n c.in-Good-count.k
 count c = step_value _ _ _ (sym c.in-Good-count.is ∙ c.byte-count.ensures)
 
-bodied-wide : (c : After-atoms-body) → length (bodied c.args.row.now c.atoms-body.new.row) ≡ 106
-bodied-wide c = bodied_length c.args.row.now c.requires.row_value c.atoms-body.new.row 0 (left-length c)
+bodied_wide : (c : After-atoms-body) → length (bodied c.args.row.now c.atoms-body.new.row) ≡ 106
+bodied_wide c = bodied_length c.args.row.now c.requires.row_value c.atoms-body.new.row 0 (left_length c)
 
-counted-wide : (c : In-Good-count) → length (counted c.args.row.now c.atoms-body.new.row c.in-Good-count.n) ≡ 106
-counted-wide c = counted_length c.args.row.now c.requires.row_value c.atoms-body.new.row _ (left-length (goal.at.In-Good-count c).After-atoms-body)
+counted_wide : (c : In-Good-count) → length (counted c.args.row.now c.atoms-body.new.row c.in-Good-count.n) ≡ 106
+counted_wide c = counted_length c.args.row.now c.requires.row_value c.atoms-body.new.row _ (left_length (goal.at.In-Good-count c).After-atoms-body)
 
 heads : (c : After-many_disjuncts-head)
     → Filled (λ ds. fault (of (body (goal.at.After-many_disjuncts-head c).In-Good).result ds)) (λ ds. padded 84 (collect group ds)) (many c.in-Good-count.n (atoms c.args.bytes.now (signed c.args.version c.args.arities.now)) c.in-Good-count.k) c.many_disjuncts-head.result c.many_disjuncts-head.new.rows
@@ -52,22 +52,22 @@ returns-in_default-count c =
     continues _ _ _ _ _ _ _ _ (body (goal.at.returns-in_default-count c).In-Good).parse (refuses _ _ _ _ _ _ value _ _ c.byte-count.ensures c.in_default-count.is)
 
 pub bounds-row-0 : goal.bounds-row-0
-bounds-row-0 c = omega (arith, bodied-wide (goal.at.bounds-row-0 c).After-atoms-body)
+bounds-row-0 c = omega (arith, bodied_wide (goal.at.bounds-row-0 c).After-atoms-body)
 
 pub slice_bounds-many_disjuncts-count : goal.slice_bounds-many_disjuncts-count
-slice_bounds-many_disjuncts-count c = omega (arith, counted-wide (goal.at.slice_bounds-many_disjuncts-count c).In-Good-count)
+slice_bounds-many_disjuncts-count c = omega (arith, counted_wide (goal.at.slice_bounds-many_disjuncts-count c).In-Good-count)
 
 pub slice_bounds-many_disjuncts-start : goal.slice_bounds-many_disjuncts-start
-slice_bounds-many_disjuncts-start c = omega (arith, counted-wide (goal.at.slice_bounds-many_disjuncts-start c).In-Good-count)
+slice_bounds-many_disjuncts-start c = omega (arith, counted_wide (goal.at.slice_bounds-many_disjuncts-start c).In-Good-count)
 
 pub many_disjuncts-head-requires : goal.many_disjuncts-head-requires
 many_disjuncts-head-requires c =
-    record { arities = c.requires.arities; n_bound = ((byte_good _ _ _ _ _ _ _ (count (goal.at.many_disjuncts-head-requires c).In-Good-count)).most, head_zeros _ c.requires.row_value c.atoms-body.new.row _ (left-length (goal.at.many_disjuncts-head-requires c).After-atoms-body)) }
+    record { arities = c.requires.arities; n_bound = ((byte_good _ _ _ _ _ _ _ (count (goal.at.many_disjuncts-head-requires c).In-Good-count)).most, head_zeros _ c.requires.row_value c.atoms-body.new.row _ (left_length (goal.at.many_disjuncts-head-requires c).After-atoms-body)) }
 
 whole_length : (c : After-many_disjuncts-head)
     → length (headed c.args.row.now c.atoms-body.new.row c.in-Good-count.n c.many_disjuncts-head.new.rows) ≡ length c.args.row.now
 whole_length c =
-    headed_length c.args.row.now c.requires.row_value c.atoms-body.new.row _ (left-length (goal.at.After-many_disjuncts-head c).After-atoms-body) c.many_disjuncts-head.new.rows c.many_disjuncts-head.auto.rows
+    headed_length c.args.row.now c.requires.row_value c.atoms-body.new.row _ (left_length (goal.at.After-many_disjuncts-head c).After-atoms-body) c.many_disjuncts-head.new.rows c.many_disjuncts-head.auto.rows
     ∙ sym (zeros_length 106 _ c.requires.row_value)
 
 head : (c : In-Good-head)
@@ -77,7 +77,7 @@ head c = step_good _ _ _ _ (sym c.in-Good-head.is ∙ (heads (goal.at.In-Good-he
 stored : (c : In-Good-head)
     → headed c.args.row.now c.atoms-body.new.row c.in-Good-count.n c.many_disjuncts-head.new.rows ≡ rule_row (of (body (goal.at.In-Good-head c).In-Good).result (head c).result)
 stored c =
-    headed_rule c.args.row.now c.requires.row_value c.atoms-body.new.row _ (left-length (goal.at.In-Good-head c).After-atoms-body) (body (goal.at.In-Good-head c).In-Good).result (head c).result _
+    headed_rule c.args.row.now c.requires.row_value c.atoms-body.new.row _ (left_length (goal.at.In-Good-head c).After-atoms-body) (body (goal.at.In-Good-head c).In-Good).result (head c).result _
     (c.atoms-body.ensures.stored _ _ (body (goal.at.In-Good-head c).In-Good).parse)
     ((heads (goal.at.In-Good-head c).After-many_disjuncts-head).stored _ _ (head c).parse)
     (many_length _ _ _ _ _ (head c).parse)

@@ -20,8 +20,8 @@ read : (c : In-Good)
     → byte c.args.bytes.now 0 64 5 c.args.i ≡ good c.in-Good.n c.in-Good.j
 read c = step_value _ _ _ (sym c.in-Good.is ∙ c.byte-count.ensures)
 
-read-few : (c : In-Good) → c.in-Good.n ≤ 64
-read-few c = (byte_good _ _ _ _ _ _ _ (read c)).most
+read_few : (c : In-Good) → c.in-Good.n ≤ 64
+read_few c = (byte_good _ _ _ _ _ _ _ (read c)).most
 
 pub bounds-row-0 : goal.bounds-row-0
 bounds-row-0 c = omega (arith, zeros_length 6785 _ c.requires.row_value)
@@ -35,7 +35,7 @@ slice_bounds-many_rules-start c = simp length-set (omega (arith, zeros_length 67
 pub many_rules-requires : goal.many_rules-requires
 many_rules-requires c =
     let a = c.requires in
-    record { arities = a.arities; n_le_rule_limit = (read-few (goal.at.many_rules-requires c).In-Good, tail_zeros 6784 _ _ a.row_value) }
+    record { arities = a.arities; n_le_rule_limit = (read_few (goal.at.many_rules-requires c).In-Good, tail_zeros 6784 _ _ a.row_value) }
 
 pub shape_of-row : goal.shape_of-row
 shape_of-row c =

@@ -53,15 +53,15 @@ bounds c =
 stored : (c : In-Good) → Agree (bytes c) c.in-Good.end (local c)
 stored c = (ran c).stored (parsed c).result _ (parsed c).parse
 
-local-length : (c : In-Good) → length (local c) ≡ 9096
-local-length c = c.put_content.auto.out
+local_length : (c : In-Good) → length (local c) ≡ 9096
+local_length c = c.put_content.auto.out
 
 -- past the length
 module _ (c : In-Good) (whole : List ℕ) (whole_is : whole ≡ lengthened (local c) (c.in-Good.end - 4)) where
   front : length (take c.in-Good.end whole) ≡ c.in-Good.end
   front =
       ap (λ (xs : List ℕ). length (take c.in-Good.end xs)) whole_is
-      ∙ front_length (form c) (local c) c.in-Good.end (stored c) (local-length c) (bounds c).1 (ended c).1
+      ∙ front_length (form c) (local c) c.in-Good.end (stored c) (local_length c) (bounds c).1 (ended c).1
 
 pub returns-then-out-end : goal.returns-then-out-end
 returns-then-out-end c = let h = ended (goal.at.returns-then-out-end c).In-Good in writing_short _ _ _ _ h.0 (let e = h.1 in omega arith)
@@ -70,14 +70,14 @@ pub put_length-requires : goal.put_length-requires
 put_length-requires c =
     let good = (goal.at.put_length-requires c).In-Good in
     let h = bounds good in
-    let l = local-length good in
+    let l = local_length good in
     (h.0, h.1, omega arith)
 
 pub slice_bounds-local-end : goal.slice_bounds-local-end
 slice_bounds-local-end c =
     let good = (goal.at.slice_bounds-local-end c).In-Good in
     let h = bounds good in
-    let l = c.put_length.auto.out ∙ local-length good in
+    let l = c.put_length.auto.out ∙ local_length good in
     omega arith
 
 pub slice_bounds-copy_from_slice-end-in-Good : goal.slice_bounds-copy_from_slice-end-in-Good
@@ -95,7 +95,7 @@ returns-else-out-end c =
     let end = c.in-Good.end in
     let copied : c.copy_from_slice.new.self ≡ take end (lengthened (local good) (end - 4)) = c.copy_from_slice.ensures.after ∙ ap (take end) c.put_length.ensures in
     let l : length (take end (lengthened (local good) (end - 4))) ≡ end = front good _ refl in
-    write_whole (form good) (local good) _ (stored good) (local-length good) (bounds good).1 (ended good).1 (parsed good).result _ _ (ended good).0 c.if-out-end.false cc
+    write_whole (form good) (local good) _ (stored good) (local_length good) (bounds good).1 (ended good).1 (parsed good).result _ _ (ended good).0 c.if-out-end.false cc
 
 pub returns-in-Bad : goal.returns-in-Bad
 returns-in-Bad c =
