@@ -20,13 +20,11 @@ fn put_column(table: &[u16], shape: Shape, j: usize, out: &mut [u8], at: usize)
     let mut above: u16 = 0;
     let mut place = j;
     let mut end = at;
-    let mut i = 0;
-    while i < count {
+    for i in 0..count {
         put_number(difference(above, table[place]), &mut *out, end);
         above = table[place];
         place += width;
         end += 2;
-        i += 1;
     }
 }
 
@@ -38,10 +36,8 @@ pub fn put_columns(table: &[u16], shape: Shape, out: &mut [u8], at: usize)
     let width = shape.width;
     let count = shape.count;
     let mut end = at;
-    let mut j = 0;
-    while j < width {
+    for j in 0..width {
         put_column(table, shape, j, &mut *out, end);
         end += 2 * count;
-        j += 1;
     }
 }

@@ -21,13 +21,11 @@ fn take_column(bytes: &[u8], at: usize, shape: Shape, j: usize, table: &mut [u16
     let mut above: u16 = 0;
     let mut place = j;
     let mut next = at;
-    let mut i = 0;
-    while i < count {
+    for i in 0..count {
         above = sum(above, number_at(bytes, next));
         table[place] = above;
         place += width;
         next += 2;
-        i += 1;
     }
 }
 
@@ -39,11 +37,9 @@ fn take_columns(bytes: &[u8], at: usize, shape: Shape, table: &mut [u16])
     let width = shape.width;
     let count = shape.count;
     let mut next = at;
-    let mut j = 0;
-    while j < width {
+    for j in 0..width {
         take_column(bytes, next, shape, j, &mut *table);
         next += 2 * count;
-        j += 1;
     }
 }
 
@@ -52,10 +48,8 @@ fn clear(table: &mut [u16], from: usize, to: usize)
     requires { (from ≤ to) × (to ≤ length table.old) }
     ensures { table.new ≡ sets table.old from (replicate (to - from) 0) }
 {
-    let mut i = from;
-    while i < to {
+    for i in from..to {
         table[i] = 0;
-        i += 1;
     }
 }
 

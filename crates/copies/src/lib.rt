@@ -22,8 +22,7 @@ fn copy(terms: &[u16], count: usize, i: usize, table: &mut [u16], n: usize) -> u
     row[0] = tables::function(terms, count, i);
     row[1] = arity;
     let mut m = n;
-    let mut j = 0;
-    while j < arity as usize {
+    for j in 0..arity as usize {
         m = copy(
             terms,
             count,
@@ -32,7 +31,6 @@ fn copy(terms: &[u16], count: usize, i: usize, table: &mut [u16], n: usize) -> u
             m,
         );
         row[2 + j] = (m - 1) as u16;
-        j += 1;
     }
     terms::append_term(&mut *table, m, row);
     m + 1
@@ -84,8 +82,7 @@ pub fn copy_terms(
 {
     let mut numbers: [u16; 8] = [0; 8];
     let mut n = 0;
-    let mut v = 0;
-    while v < 8 {
+    for v in 0..8 {
         let copied = copy_variable(
             terms,
             count,
@@ -98,7 +95,6 @@ pub fn copy_terms(
         );
         numbers = copied.numbers;
         n = copied.count;
-        v += 1;
     }
     Renamed { numbers, count: n }
 }

@@ -6,10 +6,8 @@ ghost use Rattle.model.specs.Tables.{fronted};
 fn clear(table: &mut [u16])
     ensures { table.new ≡ replicate (length table.old) 0 }
 {
-    let mut i = 0;
-    while i < table.len() {
+    for i in 0..table.len() {
         table[i] = 0;
-        i += 1;
     }
 }
 

@@ -25,10 +25,8 @@ fn row_at(form: &[u16], at: usize) -> [u16; 5]
     let n = arity_at(form, at);
     let mut row = [0u16; 5];
     row[0] = form[at];
-    let mut k = 0;
-    while k < n {
+    for k in 0..n {
         row[k + 1] = form[at + 1 + k];
-        k += 1;
     }
     row
 }
@@ -40,11 +38,9 @@ fn rows_at(form: &[u16], at: usize) -> [[u16; 5]; 4]
 {
     let n = group_count(form, at);
     let mut rows = [[0u16; 5]; 4];
-    let mut k = 0;
-    while k < n {
+    for k in 0..n {
         let row = row_at(form, atom_place(at, k));
         rows[k] = row;
-        k += 1;
     }
     rows
 }
@@ -56,10 +52,8 @@ fn arities_at(form: &[u16], at: usize) -> [usize; 4]
 {
     let n = group_count(form, at);
     let mut arities = [0usize; 4];
-    let mut k = 0;
-    while k < n {
+    for k in 0..n {
         arities[k] = arity_at(form, atom_place(at, k));
-        k += 1;
     }
     arities
 }
@@ -71,11 +65,9 @@ fn predicates_at(form: &[u16], at: usize) -> [u16; 4]
 {
     let n = group_count(form, at);
     let mut predicates = [0u16; 4];
-    let mut k = 0;
-    while k < n {
+    for k in 0..n {
         let atom = atom_place(at, k);
         predicates[k] = form[atom];
-        k += 1;
     }
     predicates
 }
@@ -124,11 +116,9 @@ pub fn head(form: &[u16], i: usize) -> [[[u16; 5]; 4]; 4]
 {
     let n = disjunct_count(form, i);
     let mut rows = [[[0u16; 5]; 4]; 4];
-    let mut d = 0;
-    while d < n {
+    for d in 0..n {
         let atoms = disjunct(form, i, d);
         rows[d] = atoms;
-        d += 1;
     }
     rows
 }
@@ -139,11 +129,9 @@ pub fn head_arities(form: &[u16], i: usize) -> [[usize; 4]; 4]
 {
     let n = disjunct_count(form, i);
     let mut rows = [[0usize; 4]; 4];
-    let mut d = 0;
-    while d < n {
+    for d in 0..n {
         let arities = disjunct_arities(form, i, d);
         rows[d] = arities;
-        d += 1;
     }
     rows
 }
@@ -154,10 +142,8 @@ pub fn head_counts(form: &[u16], i: usize) -> [usize; 4]
 {
     let n = disjunct_count(form, i);
     let mut counts = [0usize; 4];
-    let mut d = 0;
-    while d < n {
+    for d in 0..n {
         counts[d] = atom_count(form, i, d);
-        d += 1;
     }
     counts
 }

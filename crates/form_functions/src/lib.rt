@@ -29,11 +29,9 @@ pub fn number_functions(form: &[u16], before: &mut [u16]) -> usize
 {
     let n = rule_count(form) * 4;
     let mut total: usize = 0;
-    let mut j = 0;
-    while j < n {
+    for j in 0..n {
         before[j] = total as u16;
         total += functions_at(form, j);
-        j += 1;
     }
     total
 }

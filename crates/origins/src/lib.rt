@@ -55,10 +55,8 @@ fn origin_numbers(frontier: u8, others: u8, table: &[u16], j: usize, base: u16) 
     ensures { (v : ℕ) → v < 8 → get_or result v 0 ≡ origin_number frontier others (arguments_in (row 10 j table.now)) base v }
 {
     let mut names: [u16; 8] = [0; 8];
-    let mut v = 0;
-    while v < 8 {
+    for v in 0..8 {
         names[v] = origin_number(frontier, others, v as u8, table, j, base);
-        v += 1;
     }
     names
 }
@@ -70,11 +68,9 @@ fn add_constants(table: &mut [u16], n: usize, k: usize) -> usize
 {
     let row: [u16; 10] = [0; 10];
     let mut m = n;
-    let mut i = 0;
-    while i < k {
+    for i in 0..k {
         terms::append_term(&mut *table, m, row);
         m += 1;
-        i += 1;
     }
     m
 }
@@ -170,12 +166,10 @@ pub fn enter_origins(
 {
     let mut a = n;
     let mut b = m;
-    let mut j = 0;
-    while j < n {
+    for j in 0..n {
         let entered = origin_of(form, before, j, &mut *table, a, &mut *facts, b, limit);
         a = entered.terms;
         b = entered.facts;
-        j += 1;
     }
     outputs::Counts { terms: a, facts: b }
 }

@@ -12,13 +12,11 @@ pub fn functions(existential: u8, before: u16) -> [u16; 8]
 {
     let mut numbers: [u16; 8] = [0; 8];
     let mut last = before;
-    let mut v = 0;
-    while v < 8 {
+    for v in 0..8 {
         if form_variables::contains(existential, v as u8) {
             last += 1;
             numbers[v] = last;
         }
-        v += 1;
     }
     numbers
 }
@@ -30,13 +28,11 @@ pub fn template(frontier: u8, numbers: [u16; 8]) -> [u16; 10]
     let mut row: [u16; 10] = [0; 10];
     row[1] = form_variables::set_size(frontier) as u16;
     let mut place = 2;
-    let mut v = 0;
-    while v < 8 {
+    for v in 0..8 {
         if form_variables::contains(frontier, v as u8) {
             row[place] = numbers[v];
             place += 1;
         }
-        v += 1;
     }
     row
 }

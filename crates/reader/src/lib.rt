@@ -279,10 +279,8 @@ fn copy(from: &[u16], to: &mut [u16])
     requires { length from.now ≤ length to.old }
     ensures { to.new ≡ from.now ++ drop (length from.now) to.old }
 {
-    let mut k = 0;
-    while k < from.len() {
+    for k in 0..from.len() {
         to[k] = from[k];
-        k += 1;
     }
 }
 

@@ -27,10 +27,8 @@ fn reach(row: [u16; 10]) -> usize
 {
     let arity = row[1] as usize;
     let mut reached = 0;
-    let mut j = 0;
-    while j < arity {
+    for j in 0..arity {
         reached = farther(reached, row[j + 2]);
-        j += 1;
     }
     reached
 }
@@ -114,11 +112,9 @@ pub(crate) fn with_atom(
     ensures { Looked ground terms.now template (rows_with functions template (numbers_from atom 1 arity)) before result }
 {
     let mut so_far = before;
-    let mut p = 0;
-    while p < arity {
+    for p in 0..arity {
         let function = functions[atom[p + 1] as usize];
         so_far = with_variable(function, template, terms, ground, so_far);
-        p += 1;
     }
     so_far
 }

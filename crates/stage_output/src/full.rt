@@ -30,12 +30,10 @@ fn none_full_behind(terms: &[u16], left: Ground, before: u16, count: usize) -> b
     requires { Standable left terms.now × (before < number_limit) × (count ≤ 8) }
     ensures { result ≡ all (none_full_of (ground_in left terms.now)) (rising (suc before) count) }
 {
-    let mut k = 0;
-    while k < count {
+    for k in 0..count {
         if !none_full_of(terms, left, before + 1 + k as u16) {
             return false;
         }
-        k += 1;
     }
     true
 }
@@ -62,12 +60,10 @@ pub fn none_full(form: &[u16], before: &[u16], i: usize, terms: &[u16], left: Gr
     ensures { result ≡ none_full (ground_in left terms.now) (entry_of form.now i).disjuncts }
 {
     let count = form::counts::disjunct_count(form, i);
-    let mut d = 0;
-    while d < count {
+    for d in 0..count {
         if !none_full_at(form, before, i, d, terms, left) {
             return false;
         }
-        d += 1;
     }
     true
 }

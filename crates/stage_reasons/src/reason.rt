@@ -46,12 +46,10 @@ fn is_existential_free(form: &[u16], i: usize) -> bool
     ensures { result ≡ all (existential_free (rule_of form.now i)) (rule_of form.now i).head }
 {
     let count = form::counts::disjunct_count(form, i);
-    let mut d = 0;
-    while d < count {
+    for d in 0..count {
         if form_variables::skolem_count(form, i, d) != 0 {
             return false;
         }
-        d += 1;
     }
     true
 }
@@ -92,8 +90,7 @@ fn blocked_for_disjunct(
     ensures { result.known ≡ true → BlockedFor form.now i (rows 10 left.terms terms.now) trigger result.variables }
 {
     let count = form::counts::disjunct_count(form, i);
-    let mut d = 0;
-    while d < count {
+    for d in 0..count {
         let own = own_variables(form, i, d, whole);
         if own != whole {
             if blocked_outside(form, before, i, own, trigger, terms, left) {
@@ -103,7 +100,6 @@ fn blocked_for_disjunct(
                 };
             }
         }
-        d += 1;
     }
     Reason {
         known: false,

@@ -37,10 +37,8 @@ fn expected(bytes: &[u8], k: usize, front: usize) -> u16
 pub fn put(bytes: &[u8], front: usize, table: &mut [u16])
     requires { length table.old ≤ 100000 }
 {
-    let mut k = 0;
-    while k < table.len() {
+    for k in 0..table.len() {
         table[k] = expected(bytes, k, front);
-        k += 1;
     }
 }
 
@@ -48,12 +46,10 @@ pub fn put(bytes: &[u8], front: usize, table: &mut [u16])
 pub fn is_right(bytes: &[u8], front: usize, table: &[u16]) -> bool
     requires { length table.now ≤ 100000 }
 {
-    let mut k = 0;
-    while k < table.len() {
+    for k in 0..table.len() {
         if table[k] != expected(bytes, k, front) {
             return false;
         }
-        k += 1;
     }
     true
 }

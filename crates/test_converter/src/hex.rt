@@ -38,10 +38,8 @@ fn byte_in(text: &[u8], k: usize) -> u8
 fn put(text: &[u8], list: &mut [u8])
     requires { length list.old ≤ 10000 }
 {
-    let mut k = 0;
-    while k < list.len() {
+    for k in 0..list.len() {
         list[k] = byte_in(text, k);
-        k += 1;
     }
 }
 

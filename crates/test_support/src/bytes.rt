@@ -19,12 +19,10 @@ fn byte_or_mark(bytes: &[u8], k: usize) -> u8
 fn is_front(bytes: &[u8], list: &[u8]) -> bool
     ensures { Decides result list.now (λ k. get_or bytes.now k byte_mark) }
 {
-    let mut k = 0;
-    while k < list.len() {
+    for k in 0..list.len() {
         if list[k] != byte_or_mark(bytes, k) {
             return false;
         }
-        k += 1;
     }
     true
 }

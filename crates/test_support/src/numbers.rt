@@ -7,12 +7,10 @@ pub const MARK: u16 = 65535;
 pub fn is_full(list: &[u16], number: u16) -> bool
     ensures { Decides result list.now (λ k. number) }
 {
-    let mut k = 0;
-    while k < list.len() {
+    for k in 0..list.len() {
         if list[k] != number {
             return false;
         }
-        k += 1;
     }
     true
 }

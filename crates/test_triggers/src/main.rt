@@ -17,10 +17,8 @@ fn digit(x: u16) -> u8 {
 
 fn print_assignment(rt: &HostRuntime, assignment: [u16; 8]) -> io::Result<()> {
     let mut line = [b' '; 16];
-    let mut i = 0;
-    while i < 8 {
+    for i in 0..8 {
         line[2 * i] = digit(assignment[i]);
-        i += 1;
     }
     line[15] = b'\n';
     rt.write_all(&line)

@@ -50,10 +50,8 @@ fn write_term_lines(terms: &[u16], count: usize, out: &mut [u8], at: usize) -> u
     ensures { Writes (term_lines terms.now count) at out.old out.new result }
 {
     let mut o = at;
-    let mut i = 0;
-    while i < count {
+    for i in 0..count {
         o = write_term_line(terms, i, &mut *out, o);
-        i += 1;
     }
     o
 }
@@ -82,10 +80,8 @@ fn write_fact_lines(
     ensures { Writes (fact_lines arities.now facts.now count) at out.old out.new result }
 {
     let mut o = at;
-    let mut i = 0;
-    while i < count {
+    for i in 0..count {
         o = write_fact_line(arities, facts, i, &mut *out, o);
-        i += 1;
     }
     o
 }

@@ -49,10 +49,8 @@ pub fn write_numbers(numbers: &[u16], out: &mut [u8], at: usize) -> usize
     ensures { Writes (spaced numbers.now) at out.old out.new result }
 {
     let mut o = at;
-    let mut i = 0;
-    while i < numbers.len() {
+    for i in 0..numbers.len() {
         o = write_number(numbers[i] as usize, &mut *out, o);
-        i += 1;
     }
     o
 }

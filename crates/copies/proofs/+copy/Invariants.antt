@@ -15,6 +15,3 @@ decreases-copy l = l.i
 abbrev pub invariant-loop-j : goal.invariant-loop-j
 invariant-loop-j l =
     (l.arity ≡ copied_arity l.terms l.i) × (l.arity ≤ 8) × (length l.table ≡ length l.initial.table) × Copied l.count l.terms l.i (rows 10 l.n l.initial.table) l.table l.row l.m l.j × KeptTerms l.table l.m
-
-abbrev pub decreases-loop-j : goal.decreases-loop-j
-decreases-loop-j l = l.arity - l.j

@@ -13,6 +13,3 @@ use Rattle.copies.proofs.copy_terms.Given as goal
 
 abbrev pub invariant-loop-v : goal.invariant-loop-v
 invariant-loop-v l = (l.v ≤ 8) × (length l.table ≡ length l.initial.table) × (length l.numbers ≡ 8) × (rows 10 l.n l.table ≡ (chosen (rows 10 l.count l.terms) l.count l.variables (value_of l.assignment) l.v).terms) × ((w : ℕ) → w < 8 → get_or l.numbers w 0 ≡ numbers_of (below l.variables l.v) (chosen (rows 10 l.count l.terms) l.count l.variables (value_of l.assignment) l.v).numbers w) × KeptTerms l.table l.n
-
-abbrev pub decreases-loop-v : goal.decreases-loop-v
-decreases-loop-v l = 8 - l.v

@@ -10,6 +10,3 @@ use Rattle.form_functions.proofs.number_functions.Given as goal
 
 abbrev pub invariant-loop-j : goal.invariant-loop-j
 invariant-loop-j l = (l.j ≤ l.n) × (l.n ≡ places l.form) × (l.n ≤ 4 * rule_limit) × (l.total ≡ functions_before l.form l.j) × (l.total ≤ 8 * l.j) × (l.before ≡ numbering l.form l.j ++ drop l.j l.initial.before) × (length l.before ≡ length l.initial.before)
-
-abbrev pub decreases-loop-j : goal.decreases-loop-j
-decreases-loop-j l = l.n - l.j

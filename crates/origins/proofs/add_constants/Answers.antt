@@ -35,9 +35,6 @@ overflow_add-m c =
     let b = constants_room a.n a.table.now a.k a.table.now s.requires.room l.loop-i.m l.loop-i.table l.loop-i.i l.loop-i.invariant.2 h in
     record { fits = omega arith }
 
-pub overflow_add-i : goal.overflow_add-i
-overflow_add-i c = let h = c.loop-i-test.true in let f = c.ranges.k in record { fits = omega arith }
-
 pub loop-i-smaller : goal.loop-i-smaller
 loop-i-smaller c = let h = c.loop-i-test.true in omega arith
 

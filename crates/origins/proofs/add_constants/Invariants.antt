@@ -10,6 +10,3 @@ use Rattle.origins.proofs.add_constants.Given as goal
 
 abbrev pub invariant-loop-i : goal.invariant-loop-i
 invariant-loop-i l = (l.i ≤ l.k) × (length l.table ≡ length l.initial.table) × (rows 10 l.m l.table ≡ rows 10 l.n l.initial.table ++ replicate l.i constant_row) × KeptTerms l.table l.m
-
-abbrev pub decreases-loop-i : goal.decreases-loop-i
-decreases-loop-i l = l.k - l.i

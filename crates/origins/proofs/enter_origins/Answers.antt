@@ -52,9 +52,6 @@ origin_of-entered-requires c =
       },
     )
 
-pub overflow_add-j : goal.overflow_add-j
-overflow_add-j c = let h = c.loop-j-test.true in let f = c.ranges.n in omega arith
-
 pub loop-j-smaller : goal.loop-j-smaller
 loop-j-smaller c = let h = c.loop-j-test.true in omega arith
 

@@ -21,6 +21,3 @@ invariant-loop-j l =
     × Stays (rows 10 l.n l.initial.table) l.table l.a
     × (cut l.limit (enter_origins (disjuncts_in l.form) (drop l.j (rows 10 l.n l.initial.table)) (held l.table l.a l.facts l.b)) ≡ cut l.limit (origins_in l.form l.initial.table l.n l.initial.facts l.m))
     × KeptTerms l.table l.a
-
-abbrev pub decreases-loop-j : goal.decreases-loop-j
-decreases-loop-j l = l.n - l.j

@@ -9,6 +9,3 @@ use Rattle.origins.proofs.origin_numbers.Given as goal
 
 abbrev pub invariant-loop-v : goal.invariant-loop-v
 invariant-loop-v l = (l.v ≤ 8) × (length l.names ≡ 8) × ((w : ℕ) → w < l.v → get_or l.names w 0 ≡ origin_number l.frontier l.others (arguments_in (row 10 l.j l.table)) l.base w)
-
-abbrev pub decreases-loop-v : goal.decreases-loop-v
-decreases-loop-v l = 8 - l.v

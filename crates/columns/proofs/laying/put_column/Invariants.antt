@@ -15,6 +15,3 @@ pub record Left (table : List ℕ) (w count j : ℕ) (out₀ : List ℕ) (at : �
 
 abbrev pub invariant-loop-i : goal.invariant-loop-i
 invariant-loop-i l = Left l.table l.width l.count l.j l.initial.out l.at l.out l.above l.place l.end l.i
-
-abbrev pub decreases-loop-i : goal.decreases-loop-i
-decreases-loop-i l = l.count - l.i

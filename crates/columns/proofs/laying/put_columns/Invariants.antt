@@ -15,6 +15,3 @@ pub record Left (table : List ℕ) (w count : ℕ) (out₀ : List ℕ) (at : ℕ
 
 abbrev pub invariant-loop-j : goal.invariant-loop-j
 invariant-loop-j l = Left l.table l.width l.count l.initial.out l.at l.out l.end l.j
-
-abbrev pub decreases-loop-j : goal.decreases-loop-j
-decreases-loop-j l = l.width - l.j

@@ -14,6 +14,3 @@ pub record Left (table₀ : List ℕ) (from to : ℕ) (table : List ℕ) (i : �
 
 abbrev pub invariant-loop-i : goal.invariant-loop-i
 invariant-loop-i l = Left l.initial.table l.from l.to l.table l.i
-
-abbrev pub decreases-loop-i : goal.decreases-loop-i
-decreases-loop-i l = l.to - l.i

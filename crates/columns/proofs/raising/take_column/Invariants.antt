@@ -16,6 +16,3 @@ pub record Left (bytes : List ℕ) (at w count j : ℕ) (table₀ table : List �
 
 abbrev pub invariant-loop-i : goal.invariant-loop-i
 invariant-loop-i l = Left l.bytes l.at l.width l.count l.j l.initial.table l.table l.above l.place l.next l.i
-
-abbrev pub decreases-loop-i : goal.decreases-loop-i
-decreases-loop-i l = l.count - l.i

@@ -16,6 +16,3 @@ pub record Left (bytes : List ℕ) (at w count : ℕ) (table₀ table : List ℕ
 
 abbrev pub invariant-loop-j : goal.invariant-loop-j
 invariant-loop-j l = Left l.bytes l.at l.width l.count l.initial.table l.table l.next l.j
-
-abbrev pub decreases-loop-j : goal.decreases-loop-j
-decreases-loop-j l = l.width - l.j

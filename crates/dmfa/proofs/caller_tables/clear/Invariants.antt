@@ -7,6 +7,3 @@ use Rattle.dmfa.proofs.caller_tables.clear.Given as goal
 
 abbrev pub invariant-loop-i : goal.invariant-loop-i
 invariant-loop-i l = (l.i ≤ length l.initial.table) × (l.table ≡ replicate l.i 0 ++ drop l.i l.initial.table) × (length l.table ≡ length l.initial.table)
-
-abbrev pub decreases-loop-i : goal.decreases-loop-i
-decreases-loop-i l = length l.initial.table - l.i

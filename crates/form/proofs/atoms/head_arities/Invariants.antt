@@ -8,6 +8,3 @@ use Rattle.form.proofs.atoms.head_arities.Given as goal
 
 abbrev pub invariant-loop-d : goal.invariant-loop-d
 invariant-loop-d l = Filling atom_arities (replicate 4 0) (rule_of l.form l.i).head l.n l.d l.rows
-
-abbrev pub decreases-loop-d : goal.decreases-loop-d
-decreases-loop-d l = l.n - l.d

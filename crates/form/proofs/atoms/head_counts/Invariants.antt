@@ -8,6 +8,3 @@ use Rattle.form.proofs.atoms.head_counts.Given as goal
 
 abbrev pub invariant-loop-d : goal.invariant-loop-d
 invariant-loop-d l = Filling length 0 (rule_of l.form l.i).head l.n l.d l.counts
-
-abbrev pub decreases-loop-d : goal.decreases-loop-d
-decreases-loop-d l = l.n - l.d

@@ -8,6 +8,3 @@ use Rattle.form.proofs.atoms.predicates_at.Given as goal
 
 abbrev pub invariant-loop-k : goal.invariant-loop-k
 invariant-loop-k l = Filling (λ (a : Atom). a.predicate) 0 (group_of l.form l.at) l.n l.k l.predicates
-
-abbrev pub decreases-loop-k : goal.decreases-loop-k
-decreases-loop-k l = l.n - l.k

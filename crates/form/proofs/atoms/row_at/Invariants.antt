@@ -11,6 +11,3 @@ use Rattle.form.proofs.atoms.row_at.Given as goal
 
 abbrev pub invariant-loop-k : goal.invariant-loop-k
 invariant-loop-k l = (l.k ≤ l.n) × (l.n ≤ 4) × (l.row ≡ filled fact_width 0 (get_or l.form l.at 0 ∷ numbers_from l.form (l.at + 1) l.k))
-
-abbrev pub decreases-loop-k : goal.decreases-loop-k
-decreases-loop-k l = l.n - l.k

@@ -8,6 +8,3 @@ use Rattle.form.proofs.atoms.rows_at.Given as goal
 
 abbrev pub invariant-loop-k : goal.invariant-loop-k
 invariant-loop-k l = Filling atom_row no_row (group_of l.form l.at) l.n l.k l.rows
-
-abbrev pub decreases-loop-k : goal.decreases-loop-k
-decreases-loop-k l = l.n - l.k

@@ -5,6 +5,3 @@ use Rattle.outputs.proofs.skolem.functions.Given as goal
 
 abbrev pub invariant-loop-v : goal.invariant-loop-v
 invariant-loop-v l = (l.v ≤ 8) × Counted l.existential l.before l.numbers l.last l.v
-
-abbrev pub decreases-loop-v : goal.decreases-loop-v
-decreases-loop-v l = 8 - l.v

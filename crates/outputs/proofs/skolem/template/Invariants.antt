@@ -9,6 +9,3 @@ use Rattle.outputs.proofs.skolem.template.Given as goal
 
 abbrev pub invariant-loop-v : goal.invariant-loop-v
 invariant-loop-v l = (l.v ≤ 8) × (l.row ≡ filled_up l.frontier (value_of l.numbers) l.v) × (l.place ≡ 2 + length (below l.frontier l.v))
-
-abbrev pub decreases-loop-v : goal.decreases-loop-v
-decreases-loop-v l = 8 - l.v

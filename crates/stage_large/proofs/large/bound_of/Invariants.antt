@@ -10,6 +10,3 @@ abbrev pub invariant-loop-j : goal.invariant-loop-j
 invariant-loop-j l =
     (l.arity ≡ arity_of l.terms l.i) × (l.j ≤ l.arity) × (l.sum ≤ 1 + l.j * 65535)
     × (suc (total (λ (x : ℕ). get_or l.bounds x 0) (arguments_of l.terms l.i)) ≡ l.sum + total (λ (x : ℕ). get_or l.bounds x 0) (drop l.j (arguments_of l.terms l.i)))
-
-abbrev pub decreases-loop-j : goal.decreases-loop-j
-decreases-loop-j l = l.arity - l.j

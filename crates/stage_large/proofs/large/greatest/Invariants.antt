@@ -8,6 +8,3 @@ use Rattle.stage_large.proofs.large.greatest.Given as goal
 
 abbrev pub invariant-loop-i : goal.invariant-loop-i
 invariant-loop-i l = (l.i ≤ l.n) × (l.most ≤ 65) × (length l.bounds ≡ 512) × Bounds l.terms l.bounds l.i l.most
-
-abbrev pub decreases-loop-i : goal.decreases-loop-i
-decreases-loop-i l = l.n - l.i

@@ -10,6 +10,3 @@ use Rattle.stage_large.proofs.large.places.Given as goal
 abbrev pub invariant-loop-v : goal.invariant-loop-v
 invariant-loop-v l =
     (l.v ≤ 8) × (l.sum ≤ l.v * 65) × (min l.sum 65 ≡ min (places_before l.terms l.set l.assignment l.v) 65) × Measured l.terms l.sizes × (length l.sizes ≡ length l.initial.sizes)
-
-abbrev pub decreases-loop-v : goal.decreases-loop-v
-decreases-loop-v l = 8 - l.v

@@ -9,6 +9,3 @@ use Rattle.stage_output.proofs.cyclic.reach.Given as goal
 abbrev pub invariant-loop-j : goal.invariant-loop-j
 invariant-loop-j l =
     (l.arity ≡ get_or l.row 1 0) × (l.j ≤ l.arity) × ((k : ℕ) → k < l.j → get_or l.row (k + 2) 0 < l.reached) × ((n : ℕ) → Arguments n l.row → l.reached ≤ n)
-
-abbrev pub decreases-loop-j : goal.decreases-loop-j
-decreases-loop-j l = l.arity - l.j

@@ -8,6 +8,3 @@ use Rattle.stage_output.proofs.cyclic.with_atom.Given as goal
 abbrev pub invariant-loop-p : goal.invariant-loop-p
 invariant-loop-p l =
     (l.p ≤ l.arity) × Looked l.ground l.terms l.template (rows_with l.functions l.template (numbers_from l.atom 1 l.p)) l.initial.so_far l.so_far
-
-abbrev pub decreases-loop-p : goal.decreases-loop-p
-decreases-loop-p l = l.arity - l.p

@@ -11,6 +11,3 @@ use Rattle.stage_output.proofs.full.none_full.Given as goal
 
 abbrev pub invariant-loop-d : goal.invariant-loop-d
 invariant-loop-d l = (x : ℕ) → x < l.d → all (none_full_of (ground_in l.left l.terms)) (functions_of (numbered_of l.form l.i x)) ≡ true
-
-abbrev pub decreases-loop-d : goal.decreases-loop-d
-decreases-loop-d l = l.count - l.d

@@ -9,6 +9,3 @@ use Rattle.stage_output.proofs.full.none_full_behind.Given as goal
 
 abbrev pub invariant-loop-k : goal.invariant-loop-k
 invariant-loop-k l = (x : ℕ) → x < l.k → none_full_of (ground_in l.left l.terms) (suc l.before + x) ≡ true
-
-abbrev pub decreases-loop-k : goal.decreases-loop-k
-decreases-loop-k l = l.count - l.k

@@ -6,6 +6,3 @@ use Rattle.stage_reasons.proofs.reason.blocked_for_disjunct.Given as goal
 
 abbrev pub invariant-loop-d : goal.invariant-loop-d
 invariant-loop-d l = Turn (rule_of l.form l.i).head l.count l.d
-
-abbrev pub decreases-loop-d : goal.decreases-loop-d
-decreases-loop-d l = l.count - l.d

@@ -11,6 +11,3 @@ use Rattle.stage_reasons.proofs.reason.is_existential_free.Given as goal
 abbrev pub invariant-loop-d : goal.invariant-loop-d
 invariant-loop-d l =
     Turn (rule_of l.form l.i).head l.count l.d × (all (existential_free (rule_of l.form l.i)) (rule_of l.form l.i).head ≡ all (existential_free (rule_of l.form l.i)) (drop l.d (rule_of l.form l.i).head))
-
-abbrev pub decreases-loop-d : goal.decreases-loop-d
-decreases-loop-d l = l.count - l.d

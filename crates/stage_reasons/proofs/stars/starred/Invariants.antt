@@ -5,6 +5,3 @@ use Rattle.stage_reasons.proofs.stars.starred.Given as goal
 
 abbrev pub invariant-loop-v : goal.invariant-loop-v
 invariant-loop-v l = StarredTo l.set l.trigger l.row l.v
-
-abbrev pub decreases-loop-v : goal.decreases-loop-v
-decreases-loop-v l = 8 - l.v

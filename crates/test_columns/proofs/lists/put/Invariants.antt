@@ -6,6 +6,3 @@ use Rattle.test_columns.proofs.lists.put.Given as goal
 
 abbrev pub invariant-loop-k : goal.invariant-loop-k
 invariant-loop-k l = length l.table ≡ length l.initial.table
-
-abbrev pub decreases-loop-k : goal.decreases-loop-k
-decreases-loop-k l = length l.initial.table - l.k

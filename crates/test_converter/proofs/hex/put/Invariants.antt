@@ -6,6 +6,3 @@ use Rattle.test_converter.proofs.hex.put.Given as goal
 
 abbrev pub invariant-loop-k : goal.invariant-loop-k
 invariant-loop-k l = length l.list ≡ length l.initial.list
-
-abbrev pub decreases-loop-k : goal.decreases-loop-k
-decreases-loop-k l = length l.initial.list - l.k

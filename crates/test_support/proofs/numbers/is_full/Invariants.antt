@@ -6,6 +6,3 @@ use Rattle.test_support.proofs.numbers.is_full.Given as goal
 
 abbrev pub invariant-loop-k : goal.invariant-loop-k
 invariant-loop-k l = (l.k ≤ length l.list) × ((j : ℕ) → j < l.k → get_or l.list j 0 ≡ l.number)
-
-abbrev pub decreases-loop-k : goal.decreases-loop-k
-decreases-loop-k l = length l.list - l.k

@@ -8,6 +8,3 @@ use Rattle.text.proofs.records.write_term_lines.Given as goal
 
 abbrev pub invariant-loop-i : goal.invariant-loop-i
 invariant-loop-i l = (l.i ≤ l.count) × Writes (term_lines l.terms l.i) l.at l.initial.out l.out l.o × (length l.out ≡ length l.initial.out)
-
-abbrev pub decreases-loop-i : goal.decreases-loop-i
-decreases-loop-i l = l.count - l.i

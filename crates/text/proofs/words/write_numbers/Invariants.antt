@@ -9,6 +9,3 @@ use Rattle.text.proofs.words.write_numbers.Given as goal
 
 abbrev pub invariant-loop-i : goal.invariant-loop-i
 invariant-loop-i l = (l.i ≤ length l.numbers) × Writes (spaced (take l.i l.numbers)) l.at l.initial.out l.out l.o × (length l.out ≡ length l.initial.out)
-
-abbrev pub decreases-loop-i : goal.decreases-loop-i
-decreases-loop-i l = length l.numbers - l.i
