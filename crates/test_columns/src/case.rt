@@ -1,7 +1,7 @@
 // A case `K L NN TTTT FFFF TERMS FACTS STORE`: p where it is packed and u where it is unpacked, which lists are lent, the number of a refusal or
 // 0, the counts of terms and facts, and the files of the terms' numbers, the facts' and the store's bytes. L is `=` for lists of the lengths
 // that are asked for, `+` for longer ones, `t`, `f` or `o` where the terms, the facts or the store's bytes are one short.
-ghost use Rattle.std.specs.Prelude.{◌+◌, ◌≤◌, length, IfOk};
+ghost use Rattle.std.specs.Prelude.{◌≤◌, length, IfOk};
 
 use crate::lists::FILE_ROOM;
 use crate::{packing, unpacking};
@@ -11,23 +11,6 @@ use test_support::{file, say};
 
 // Where the first file's name begins.
 const NAMES: usize = 17;
-
-// How much longer a list may be than it is asked for.
-pub const MORE: usize = 57;
-
-// The length of a list of which `letter` says that it is one short.
-pub fn room(lists: u8, letter: u8, asked: usize) -> usize
-    requires { (1 ≤ asked) × (asked ≤ 100000) }
-    ensures { result ≤ asked + 57 }
-{
-    if lists == letter {
-        return asked - 1;
-    }
-    if lists == b'+' {
-        return asked + MORE;
-    }
-    asked
-}
 
 // A file's bytes in the front of a list, and how many; none where it cannot be opened.
 fn loaded(rt: &HostRuntime, name: &[u8], list: &mut [u8]) -> io::Result<usize>
@@ -58,17 +41,17 @@ fn tried(
 // Whether a case differs, which is then said.
 pub fn differs(rt: &HostRuntime, line: &[u8]) -> io::Result<bool> {
     if line.len() < NAMES {
-        say::note(rt, line, b"no case")?;
+        say::note(rt, line, "no case")?;
         return Ok(true);
     }
     let first = find(line, NAMES, b' ');
     if line.len() <= first {
-        say::note(rt, line, b"no case")?;
+        say::note(rt, line, "no case")?;
         return Ok(true);
     }
     let second = find(line, first + 1, b' ');
     if line.len() <= second {
-        say::note(rt, line, b"no case")?;
+        say::note(rt, line, "no case")?;
         return Ok(true);
     }
     let mut terms = [0u8; FILE_ROOM];

@@ -6,12 +6,6 @@ use test_support::numbers::MARK;
 // Room for a file's bytes: more than the largest store and the largest table have.
 pub const FILE_ROOM: usize = 30800;
 
-fn wide(x: u8) -> u16
-    ensures { result ≤ 255 }
-{
-    x as u16
-}
-
 // Number k of a file; one that it lacks is 0.
 fn number_in(bytes: &[u8], k: usize) -> u16
     requires { k ≤ 100000 }
@@ -20,7 +14,7 @@ fn number_in(bytes: &[u8], k: usize) -> u16
     if bytes.len() < at + 2 {
         return 0;
     }
-    wide(bytes[at]) * 256 + wide(bytes[at + 1])
+    u16::from_be_bytes([bytes[at], bytes[at + 1]])
 }
 
 // What is expected at a place of a table: the file's number in the front part, and the mark beyond.

@@ -1,12 +1,12 @@
 // A case of `pack`: the tables have the files' numbers in their front parts, the output is full of marks.
 ghost use Rattle.std.specs.Prelude.{◌≤◌, length};
 
-use crate::case::{MORE, room};
 use crate::lists;
 use columns::{FACTS_FRONT, STORE_ROOM, TERMS_FRONT, pack};
 use std::io;
 use test_support::answer::{Answer, is_other, shown};
 use test_support::column::{four, two};
+use test_support::lent::{MORE, room};
 use test_support::{bytes, say};
 
 // What a case expects: the store's length, or a refusal at place 0.
@@ -38,7 +38,7 @@ fn compared(
     if bytes::is_right(store, found.refusal, out) {
         return Ok(false);
     }
-    say::note(rt, line, b"another store")?;
+    say::note(rt, line, "another store")?;
     Ok(true)
 }
 

@@ -1,37 +1,20 @@
 // A case of `unpack`: the tables are full of marks.
 ghost use Rattle.std.specs.Prelude.{◌≤◌, length};
 
-use crate::case::{MORE, room};
 use crate::lists;
-use columns::{FACTS_FRONT, TERMS_FRONT, Unpacked, unpack};
+use columns::{FACTS_FRONT, Stored, TERMS_FRONT, unpack};
+use refusal::Refused;
 use std::io;
 use test_support::column::{four, two};
+use test_support::lent::{MORE, room};
 use test_support::{numbers, say};
 
-// Whether the counts are those of the case.
-fn are_counted(line: &[u8], t: usize, f: usize) -> bool {
-    if two(line, 4) != 0 {
-        return false;
-    }
-    if four(line, 7) != t {
-        return false;
-    }
-    four(line, 12) == f
-}
-
-// Whether a refusal is the one of the case, at place 0.
-fn is_refused(line: &[u8], refusal: u8, place: usize) -> bool {
-    if place != 0 {
-        return false;
-    }
-    two(line, 4) == refusal as usize
-}
-
-// Whether the answer is the one of the case.
-fn is_expected(line: &[u8], answer: Unpacked) -> bool {
+// Whether the answer is the one of the case: its counts, or its refusal at place 0.
+fn is_expected(line: &[u8], answer: Result<Stored, Refused>) -> bool {
+    let refusal = two(line, 4);
     match answer {
-        Unpacked::Counts(t, f) => are_counted(line, t, f),
-        Unpacked::Refusal(refusal, place) => is_refused(line, refusal, place),
+        Ok(stored) => refusal == 0 && four(line, 7) == stored.terms && four(line, 12) == stored.facts,
+        Err(refused) => refused.place == 0 && refusal == usize::from(refused.refusal),
     }
 }
 
@@ -62,13 +45,13 @@ fn compared(
 {
     let answer = unpack(store, &mut *term_list, &mut *fact_list);
     if !is_expected(line, answer) {
-        say::note(rt, line, b"another answer")?;
+        say::note(rt, line, "another answer")?;
         return Ok(true);
     }
     if are_right(line, terms, facts, term_list, fact_list) {
         return Ok(false);
     }
-    say::note(rt, line, b"other tables")?;
+    say::note(rt, line, "other tables")?;
     Ok(true)
 }
 

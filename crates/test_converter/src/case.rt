@@ -4,7 +4,9 @@
 // byte short, which gives refusal 1 at place 0.
 ghost use Rattle.std.specs.Prelude.{◌≤◌, length};
 
-use crate::{converting, hex};
+use crate::converting::{Case, differs as differs_by};
+use crate::hex;
+use converter::{downgrade, upgrade};
 use std::io;
 use test_support::answer::Answer;
 use test_support::column::{find, four, two};
@@ -24,28 +26,32 @@ fn expected(line: &[u8]) -> Answer {
 fn tried(rt: &HostRuntime, line: &[u8], front: &[u8], book: &[u8], bytes: &[u8]) -> io::Result<bool>
     requires { 1 ≤ length line.now }
 {
-    let to_two = line[0] == b'u';
-    let answer = expected(line);
-    if converting::differs(rt, front, to_two, answer, book, bytes)? {
-        return Ok(true);
+    let case = Case {
+        line: front,
+        answer: expected(line),
+        book,
+        written: bytes,
+    };
+    if line[0] == b'u' {
+        return differs_by(rt, upgrade, downgrade, case);
     }
-    converting::differs_where_short(rt, front, to_two, book)
+    differs_by(rt, downgrade, upgrade, case)
 }
 
 // Whether a case differs, which is then said.
 pub fn differs(rt: &HostRuntime, line: &[u8]) -> io::Result<bool> {
     if line.len() < NAME {
-        say::note(rt, line, b"no case")?;
+        say::note(rt, line, "no case")?;
         return Ok(true);
     }
     let first = find(line, NAME, b' ');
     if line.len() <= first {
-        say::note(rt, line, b"no case")?;
+        say::note(rt, line, "no case")?;
         return Ok(true);
     }
     let second = find(line, first + 1, b' ');
     if line.len() <= second {
-        say::note(rt, line, b"no case")?;
+        say::note(rt, line, "no case")?;
         return Ok(true);
     }
     let mut book = [0u8; hex::ROOM];

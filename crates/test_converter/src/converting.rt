@@ -1,5 +1,6 @@
-// `upgrade` and `downgrade` over outputs that were full of marks.
-use converter::{downgrade, upgrade};
+// A converter over outputs that were full of marks. `way` is `upgrade` or `downgrade`, and `back` the other.
+ghost use Rattle.std.specs.Prelude.{◌≡◌};
+
 use reader::Transfer;
 use std::io;
 use test_support::answer::{Answer, is_other, shown};
@@ -11,87 +12,78 @@ const OUTPUT_ROOM: usize = 9096;
 // A longer one.
 const LONGER_ROOM: usize = OUTPUT_ROOM + 57;
 
-fn convert(to_two: bool, book: &[u8], out: &mut [u8]) -> Transfer {
-    if to_two {
-        return upgrade(book, out);
-    }
-    downgrade(book, out)
+// What a case is about: its line, the book, and what is written of it.
+#[derive(Clone, Copy)]
+pub struct Case<'a> {
+    pub line: &'a [u8],
+    pub answer: Answer,
+    pub book: &'a [u8],
+    pub written: &'a [u8],
 }
 
 // Whether these bytes, converted back, are not the book.
-fn is_lost(to_two: bool, book: &[u8], written: &[u8]) -> bool {
+fn is_lost<B: Fn(&[u8], &mut [u8]) -> Transfer>(back: B, case: Case<'_>) -> bool
+    requires { B.IsAlwaysCallable back }
+{
     let mut out = [bytes::MARK; OUTPUT_ROOM];
-    let transfer = convert(!to_two, written, &mut out[..]);
-    let found = shown(transfer);
-    if found.refusal != 0 {
-        return true;
-    }
-    if found.place != book.len() {
-        return true;
-    }
-    !bytes::is_right(book, 0, &out[..])
+    let found = shown(back(case.written, &mut out[..]));
+    found.refusal != 0 || found.place != case.book.len() || !bytes::is_right(case.book, 0, &out[..])
 }
 
 // Whether the answer or the output differs.
-fn compared(
+fn compared<W: Fn(&[u8], &mut [u8]) -> Transfer>(
     rt: &HostRuntime,
-    line: &[u8],
-    to_two: bool,
-    answer: Answer,
-    book: &[u8],
-    written: &[u8],
+    way: &W,
+    case: Case<'_>,
     out: &mut [u8],
-) -> io::Result<bool> {
-    let transfer = convert(to_two, book, &mut *out);
-    let found = shown(transfer);
-    if is_other(rt, line, answer, found)? {
+) -> io::Result<bool>
+    requires { W.IsAlwaysCallable way.now }
+{
+    let found = shown(way(case.book, &mut *out));
+    if is_other(rt, case.line, case.answer, found)? {
         return Ok(true);
     }
-    if bytes::is_right(written, found.refusal, out) {
+    if bytes::is_right(case.written, found.refusal, out) {
         return Ok(false);
     }
-    say::note(rt, line, b"other bytes")?;
+    say::note(rt, case.line, "other bytes")?;
     Ok(true)
 }
 
-// Whether the answer, the output or the way back differs, over an output that is just long enough and a longer one.
-pub fn differs(
+// Whether the answer, the output or the way back differs, over an output that is just long enough and a longer one; and whether an output that is
+// one byte short is not refused, or touched.
+pub fn differs<W: Fn(&[u8], &mut [u8]) -> Transfer, B: Fn(&[u8], &mut [u8]) -> Transfer>(
     rt: &HostRuntime,
-    line: &[u8],
-    to_two: bool,
-    answer: Answer,
-    book: &[u8],
-    written: &[u8],
-) -> io::Result<bool> {
+    way: W,
+    back: B,
+    case: Case<'_>,
+) -> io::Result<bool>
+    requires way { W.IsAlwaysCallable way }
+    requires back { B.IsAlwaysCallable back }
+{
     let mut out = [bytes::MARK; OUTPUT_ROOM];
-    if compared(rt, line, to_two, answer, book, written, &mut out[..])? {
+    if compared(rt, &way, case, &mut out[..])? {
         return Ok(true);
     }
     let mut longer = [bytes::MARK; LONGER_ROOM];
-    if compared(rt, line, to_two, answer, book, written, &mut longer[..])? {
+    if compared(rt, &way, case, &mut longer[..])? {
         return Ok(true);
     }
-    if answer.refusal != 0 {
-        return Ok(false);
+    if case.answer.refusal == 0 {
+        if is_lost(back, case) {
+            say::note(rt, case.line, "not converted back")?;
+            return Ok(true);
+        }
     }
-    if is_lost(to_two, book, written) {
-        say::note(rt, line, b"not converted back")?;
-        return Ok(true);
-    }
-    Ok(false)
-}
-
-// Whether an output that is one byte short is not refused, or touched.
-pub fn differs_where_short(
-    rt: &HostRuntime,
-    line: &[u8],
-    to_two: bool,
-    book: &[u8],
-) -> io::Result<bool> {
-    let mut out = [bytes::MARK; OUTPUT_ROOM - 1];
-    let refused = Answer {
-        refusal: 1,
-        place: 0,
+    let mut short = [bytes::MARK; OUTPUT_ROOM - 1];
+    let refused = Case {
+        line: case.line,
+        answer: Answer {
+            refusal: 1,
+            place: 0,
+        },
+        book: case.book,
+        written: &case.book[0..0],
     };
-    compared(rt, line, to_two, refused, book, &book[0..0], &mut out[..])
+    compared(rt, &way, refused, &mut short[..])
 }

@@ -9,40 +9,22 @@ mod converting;
 mod hex;
 
 use std::io;
-use test_support::column::line_end;
 use test_support::tally::Tally;
-use test_support::{file, say};
+use test_support::{group, say};
 
 // More bytes than a file of cases has.
 const TEXT_ROOM: usize = 65536;
 
-fn try_cases(rt: &HostRuntime, text: &[u8]) -> io::Result<Tally> {
-    let mut tally = Tally::new();
-    let mut at = 0;
-    while at < text.len() {
-        let end = line_end(text, at);
-        tally = tally.with(case::differs(rt, &text[at..end])?);
-        at = end + 1;
-    }
-    Ok(tally)
-}
-
-fn try_group(rt: &HostRuntime, name: &[u8]) -> io::Result<Tally> {
-    let Some(file) = file::open(rt, name)? else {
-        return Ok(Tally::new().with(true));
-    };
+fn try_group(rt: &HostRuntime, name: &str) -> io::Result<Tally> {
     let mut text = [0u8; TEXT_ROOM];
-    let n = file::load(file, &mut text[..])?;
-    let tally = try_cases(rt, &text[..n])?;
-    say::count(rt, name, tally.cases, tally.differences)?;
-    Ok(tally)
+    group::try_group(rt, name, &mut text, |rt, line| case::differs(rt, line))
 }
 
 fn main(rt: HostRuntime) -> io::Result<()> {
-    try_group(&rt, b"misstated")?;
-    let tally = try_group(&rt, b"requests")?
-        .plus(try_group(&rt, b"upgrade")?)
-        .plus(try_group(&rt, b"downgrade")?)
-        .plus(try_group(&rt, b"limits")?);
-    say::count(&rt, b"all", tally.cases, tally.differences)
+    try_group(&rt, "misstated")?;
+    let tally = try_group(&rt, "requests")?
+        .plus(try_group(&rt, "upgrade")?)
+        .plus(try_group(&rt, "downgrade")?)
+        .plus(try_group(&rt, "limits")?);
+    say::count(&rt, "all", tally)
 }

@@ -76,6 +76,6 @@ pub fn differs(rt: &HostRuntime, book: &[u8], numbers: &[u8]) -> io::Result<bool
     if tables::row_stands_at(&found[..], 0, &expected[..]) {
         return Ok(false);
     }
-    say::note(rt, book, b"another form")?;
+    say::note(rt, book, "another form")?;
     Ok(true)
 }

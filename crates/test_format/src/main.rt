@@ -13,9 +13,8 @@ mod writing;
 
 use crate::answer::FILE_ROOM;
 use std::io;
-use test_support::column::line_end;
 use test_support::tally::Tally;
-use test_support::{file, say};
+use test_support::{group, say};
 
 // Whether a case differs, which is then said.
 fn differs(rt: &HostRuntime, line: &[u8]) -> io::Result<bool> {
@@ -27,26 +26,9 @@ fn differs(rt: &HostRuntime, line: &[u8]) -> io::Result<bool> {
     reading::differs(rt, line)
 }
 
-fn try_cases(rt: &HostRuntime, text: &[u8]) -> io::Result<Tally> {
-    let mut tally = Tally::new();
-    let mut at = 0;
-    while at < text.len() {
-        let end = line_end(text, at);
-        tally = tally.with(differs(rt, &text[at..end])?);
-        at = end + 1;
-    }
-    Ok(tally)
-}
-
-fn try_group(rt: &HostRuntime, name: &[u8]) -> io::Result<Tally> {
-    let Some(file) = file::open(rt, name)? else {
-        return Ok(Tally::new().with(true));
-    };
+fn try_group(rt: &HostRuntime, name: &str) -> io::Result<Tally> {
     let mut text = [0u8; FILE_ROOM];
-    let n = file::load(file, &mut text[..])?;
-    let tally = try_cases(rt, &text[..n])?;
-    say::count(rt, name, tally.cases, tally.differences)?;
-    Ok(tally)
+    group::try_group(rt, name, &mut text, |rt, line| differs(rt, line))
 }
 
 // The forms of River and Lake in both versions, and one with a predicate that takes two bytes, number by number.
@@ -57,24 +39,24 @@ fn try_forms(rt: &HostRuntime) -> io::Result<Tally> {
         .with(forms::differs(rt, b"river-2.book", b"river-2.form")?)
         .with(forms::differs(rt, b"lake-2.book", b"lake-2.form")?)
         .with(forms::differs(rt, b"c15-predicate-256.book", b"c15-predicate-256.form")?);
-    say::count(rt, b"forms", tally.cases, tally.differences)?;
+    say::count(rt, "forms", tally)?;
     Ok(tally)
 }
 
 fn main(rt: HostRuntime) -> io::Result<()> {
-    try_group(&rt, b"misstated")?;
+    try_group(&rt, "misstated")?;
     forms::differs(&rt, b"river.book", b"lake.form")?;
     forms::differs(&rt, b"river.book", b"river-2.form")?;
-    let tally = try_group(&rt, b"refusals")?
-        .plus(try_group(&rt, b"damaged")?)
-        .plus(try_group(&rt, b"random")?)
-        .plus(try_group(&rt, b"papers")?)
-        .plus(try_group(&rt, b"longest")?)
-        .plus(try_group(&rt, b"lengths")?)
-        .plus(try_group(&rt, b"requests")?)
-        .plus(try_group(&rt, b"generated")?)
+    let tally = try_group(&rt, "refusals")?
+        .plus(try_group(&rt, "damaged")?)
+        .plus(try_group(&rt, "random")?)
+        .plus(try_group(&rt, "papers")?)
+        .plus(try_group(&rt, "longest")?)
+        .plus(try_group(&rt, "lengths")?)
+        .plus(try_group(&rt, "requests")?)
+        .plus(try_group(&rt, "generated")?)
         .plus(try_forms(&rt)?)
-        .plus(try_group(&rt, b"writing")?)
-        .plus(try_group(&rt, b"versions")?);
-    say::count(&rt, b"all", tally.cases, tally.differences)
+        .plus(try_group(&rt, "writing")?)
+        .plus(try_group(&rt, "versions")?);
+    say::count(&rt, "all", tally)
 }

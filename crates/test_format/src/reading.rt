@@ -34,7 +34,7 @@ fn compared(rt: &HostRuntime, line: &[u8], book: &[u8], form: &mut [u16]) -> io:
         return Ok(true);
     }
     if !forms::is_right(book, found.refusal, form) {
-        say::note(rt, line, b"another form")?;
+        say::note(rt, line, "another form")?;
         return Ok(true);
     }
     if found.refusal != 0 {
@@ -43,14 +43,14 @@ fn compared(rt: &HostRuntime, line: &[u8], book: &[u8], form: &mut [u16]) -> io:
     if is_written_back(form, book) {
         return Ok(false);
     }
-    say::note(rt, line, b"not written back")?;
+    say::note(rt, line, "not written back")?;
     Ok(true)
 }
 
 // Whether a case differs, by the front of its book.
 pub fn differs(rt: &HostRuntime, line: &[u8]) -> io::Result<bool> {
     if line.len() < 15 {
-        say::note(rt, line, b"no case")?;
+        say::note(rt, line, "no case")?;
         return Ok(true);
     }
     let Some(file) = file::open(rt, &line[15..])? else {

@@ -26,13 +26,13 @@ fn compared(
     if bytes::is_right(book, found.refusal, list) {
         return Ok(false);
     }
-    say::note(rt, line, b"other bytes")?;
+    say::note(rt, line, "other bytes")?;
     Ok(true)
 }
 
 pub fn differs(rt: &HostRuntime, line: &[u8]) -> io::Result<bool> {
     if line.len() < 30 {
-        say::note(rt, line, b"no case")?;
+        say::note(rt, line, "no case")?;
         return Ok(true);
     }
     let Some(file) = file::open(rt, &line[30..])? else {

@@ -7,8 +7,9 @@ use crate::say;
 use reader::Transfer;
 use std::io;
 
-// 0 and how many bytes were read or written, or a refusal and its place.
-#[derive(Clone, Copy)]
+// 0 and how many bytes were read or written, or a refusal's number and its place: two columns of a case, which may state a number that no
+// refusal has.
+#[derive(Clone, Copy, PartialEq, Eq)]
 pub struct Answer {
     pub refusal: usize,
     pub place: usize,
@@ -18,13 +19,13 @@ pub fn shown(t: Transfer) -> Answer
     ensures { (result.refusal ≡ refusal_of (transfer_of t)) × (result.place ≡ place_of (transfer_of t)) }
 {
     match t {
-        Transfer::Done(n) => Answer {
+        Ok(n) => Answer {
             refusal: 0,
             place: n,
         },
-        Transfer::Refusal(refusal, place) => Answer {
-            refusal: refusal as usize,
-            place,
+        Err(refused) => Answer {
+            refusal: usize::from(refused.refusal),
+            place: refused.place,
         },
     }
 }
@@ -33,11 +34,9 @@ pub fn shown(t: Transfer) -> Answer
 pub fn is_other(rt: &HostRuntime, line: &[u8], expected: Answer, found: Answer) -> io::Result<bool>
     ensures { IfOk result (λ other. other ≡ not (found.refusal == expected.refusal && found.place == expected.place)) }
 {
-    if found.refusal == expected.refusal {
-        if found.place == expected.place {
-            return Ok(false);
-        }
+    if found == expected {
+        return Ok(false);
     }
-    say::answer(rt, line, found.refusal, found.place)?;
+    say::answer(rt, line, found)?;
     Ok(true)
 }

@@ -7,14 +7,12 @@ pub fn find(text: &[u8], i: usize, byte: u8) -> usize
     requires { i ≤ length text.now }
     ensures { columns.Next byte text.now i result }
 {
-    let mut k = i;
-    while k < text.len() {
+    for k in i..text.len() {
         if text[k] == byte {
             return k;
         }
-        k += 1;
     }
-    k
+    text.len()
 }
 
 // Where the line that i stands in ends: its line end, or the text's end.
@@ -39,7 +37,7 @@ fn digit(line: &[u8], i: usize) -> usize
     if b'9' < b {
         return 0;
     }
-    (b - b'0') as usize
+    usize::from(b - b'0')
 }
 
 // The number that two digits from i on spell.

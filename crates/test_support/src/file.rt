@@ -8,17 +8,13 @@ use std::{fs, io};
 
 // Opens a file; one that cannot be opened is said.
 pub fn open(rt: &HostRuntime, path: &[u8]) -> io::Result<Option<File>> {
-    let Ok(name) = str::from_utf8(path) else {
-        say::note(rt, path, b"cannot be opened")?;
-        return Ok(None);
-    };
-    match fs::open(rt, name) {
-        Ok(file) => Ok(Some(file)),
-        Err(_) => {
-            say::note(rt, path, b"cannot be opened")?;
-            Ok(None)
+    if let Ok(name) = str::from_utf8(path) {
+        if let Ok(file) = fs::open(rt, name) {
+            return Ok(Some(file));
         }
     }
+    say::note(rt, path, "cannot be opened")?;
+    Ok(None)
 }
 
 // Reads an open file into the front of a list, as far as it fits, closes it, and answers how many bytes.

@@ -5,6 +5,8 @@ pub mod answer;
 pub mod bytes;
 pub mod column;
 pub mod file;
+pub mod group;
+pub mod lent;
 pub mod numbers;
 pub mod say;
 pub mod tally;

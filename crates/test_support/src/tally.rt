@@ -8,16 +8,6 @@ pub struct Tally {
     pub differences: usize,
 }
 
-// A sum, cut at the largest number.
-fn sum(a: usize, b: usize) -> usize
-    ensures { result ≡ capped (a + b) }
-{
-    if a <= usize::MAX - b {
-        return a + b;
-    }
-    usize::MAX
-}
-
 impl Tally {
     pub fn new() -> Tally
         ensures { (result.cases ≡ 0) × (result.differences ≡ 0) }
@@ -33,8 +23,8 @@ impl Tally {
         ensures { (result.cases ≡ capped (self.cases + 1)) × (result.differences ≡ capped (self.differences + once differs)) }
     {
         Tally {
-            cases: sum(self.cases, 1),
-            differences: sum(self.differences, differs as usize),
+            cases: self.cases.saturating_add(1),
+            differences: self.differences.saturating_add(usize::from(differs)),
         }
     }
 
@@ -42,8 +32,8 @@ impl Tally {
         ensures { (result.cases ≡ capped (self.cases + other.cases)) × (result.differences ≡ capped (self.differences + other.differences)) }
     {
         Tally {
-            cases: sum(self.cases, other.cases),
-            differences: sum(self.differences, other.differences),
+            cases: self.cases.saturating_add(other.cases),
+            differences: self.differences.saturating_add(other.differences),
         }
     }
 }

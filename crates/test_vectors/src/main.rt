@@ -9,47 +9,29 @@ mod lists;
 mod printing;
 
 use std::io;
-use test_support::column::line_end;
 use test_support::tally::Tally;
-use test_support::{file, say};
+use test_support::{group, say};
 
 // More bytes than a group has.
 const FILE_ROOM: usize = 4096;
 
-fn try_cases(rt: &HostRuntime, text: &[u8]) -> io::Result<Tally> {
-    let mut tally = Tally::new();
-    let mut at = 0;
-    while at < text.len() {
-        let end = line_end(text, at);
-        tally = tally.with(printing::differs(rt, &text[at..end])?);
-        at = end + 1;
-    }
-    Ok(tally)
-}
-
-fn try_group(rt: &HostRuntime, name: &[u8]) -> io::Result<Tally> {
-    let Some(file) = file::open(rt, name)? else {
-        return Ok(Tally::new().with(true));
-    };
+fn try_group(rt: &HostRuntime, name: &str) -> io::Result<Tally> {
     let mut text = [0u8; FILE_ROOM];
-    let n = file::load(file, &mut text[..])?;
-    let tally = try_cases(rt, &text[..n])?;
-    say::count(rt, name, tally.cases, tally.differences)?;
-    Ok(tally)
+    group::try_group(rt, name, &mut text, |rt, line| printing::differs(rt, line))
 }
 
 fn main(rt: HostRuntime) -> io::Result<()> {
-    try_group(&rt, b"misstated")?;
-    let tally = try_group(&rt, b"papers")?
-        .plus(try_group(&rt, b"refusals")?)
-        .plus(try_group(&rt, b"misreadings")?)
-        .plus(try_group(&rt, b"limits")?)
-        .plus(try_group(&rt, b"order")?)
-        .plus(try_group(&rt, b"depths")?)
-        .plus(try_group(&rt, b"version-2")?)
-        .plus(try_group(&rt, b"random")?)
-        .plus(try_group(&rt, b"damaged")?)
-        .plus(try_group(&rt, b"longer")?)
-        .plus(try_group(&rt, b"short")?);
-    say::count(&rt, b"all", tally.cases, tally.differences)
+    try_group(&rt, "misstated")?;
+    let tally = try_group(&rt, "papers")?
+        .plus(try_group(&rt, "refusals")?)
+        .plus(try_group(&rt, "misreadings")?)
+        .plus(try_group(&rt, "limits")?)
+        .plus(try_group(&rt, "order")?)
+        .plus(try_group(&rt, "depths")?)
+        .plus(try_group(&rt, "version-2")?)
+        .plus(try_group(&rt, "random")?)
+        .plus(try_group(&rt, "damaged")?)
+        .plus(try_group(&rt, "longer")?)
+        .plus(try_group(&rt, "short")?);
+    say::count(&rt, "all", tally)
 }

@@ -2,17 +2,15 @@
 // file, and the file of the text. L is `=` for lists of the lengths that `print` asks for, `+` for longer ones, `t`, `f` or `o` where the terms,
 // the facts or the text's bytes are one short: then the answer is refusal 1 at place 0. It is `d` where the number is no depth, and the answer
 // refusal 18. Neither touches anything.
-ghost use Rattle.std.specs.Prelude.{◌+◌, ◌<◌, ◌≤◌, length};
+ghost use Rattle.std.specs.Prelude.{◌≤◌, length};
 
 use crate::lists;
 use report::{FACTS_FRONT, TERMS_FRONT, TEXT_ROOM, print};
 use std::io;
 use test_support::answer::{Answer, is_other, shown};
 use test_support::column::{find, four};
+use test_support::lent::{MORE, room};
 use test_support::{bytes, file, numbers, say};
-
-// How much longer a list may be than `print` asks.
-const MORE: usize = 57;
 
 // Where the columns of a case begin.
 const DEPTH_COLUMN: usize = 2;
@@ -23,20 +21,6 @@ const BOOK_COLUMN: usize = 17;
 
 // One byte more than the longest book has.
 const INPUT_LIMIT: usize = 9097;
-
-// The length of a list of which `letter` says that it is one short.
-fn room(lists: u8, letter: u8, asked: usize) -> usize
-    requires { (0 < asked) × (asked < 100000) }
-    ensures { result ≤ asked + 57 }
-{
-    if lists == letter {
-        return asked - 1;
-    }
-    if lists == b'+' {
-        return asked + MORE;
-    }
-    asked
-}
 
 fn expected(lists: u8, length: usize) -> Answer {
     if lists == b't' || lists == b'f' || lists == b'o' {
@@ -81,13 +65,13 @@ fn compared(
         return Ok(true);
     }
     if !bytes::is_right(text, found.refusal, out) {
-        say::note(rt, line, b"another text")?;
+        say::note(rt, line, "another text")?;
         return Ok(true);
     }
     if lists::are_right(&line[TABLES_COLUMN..], terms, facts) {
         return Ok(false);
     }
-    say::note(rt, line, b"other tables")?;
+    say::note(rt, line, "other tables")?;
     Ok(true)
 }
 
@@ -116,12 +100,12 @@ fn tried(rt: &HostRuntime, line: &[u8], book: &[u8], text: &[u8]) -> io::Result<
 // Whether a case differs, by the front of its book.
 pub fn differs(rt: &HostRuntime, line: &[u8]) -> io::Result<bool> {
     if line.len() < BOOK_COLUMN {
-        say::note(rt, line, b"no case")?;
+        say::note(rt, line, "no case")?;
         return Ok(true);
     }
     let space = find(line, BOOK_COLUMN, b' ');
     if line.len() <= space {
-        say::note(rt, line, b"no case")?;
+        say::note(rt, line, "no case")?;
         return Ok(true);
     }
     let Some(file) = file::open(rt, &line[BOOK_COLUMN..space])? else {
