@@ -13,7 +13,9 @@ use test_support::{numbers, say};
 fn is_expected(line: &[u8], answer: Result<Stored, Refused>) -> bool {
     let refusal = two(line, 4);
     match answer {
-        Ok(stored) => refusal == 0 && four(line, 7) == stored.terms && four(line, 12) == stored.facts,
+        Ok(stored) => refusal == 0
+            && four(line, 7) == stored.terms
+            && four(line, 12) == stored.facts,
         Err(refused) => refused.place == 0 && refusal == usize::from(refused.refusal),
     }
 }
@@ -25,10 +27,7 @@ fn are_right(line: &[u8], terms: &[u8], facts: &[u8], term_list: &[u16], fact_li
     if two(line, 4) != 0 {
         return numbers::is_marked(term_list) && numbers::is_marked(fact_list);
     }
-    if !lists::is_right(terms, TERMS_FRONT, term_list) {
-        return false;
-    }
-    lists::is_right(facts, FACTS_FRONT, fact_list)
+    lists::is_right(terms, TERMS_FRONT, term_list) && lists::is_right(facts, FACTS_FRONT, fact_list)
 }
 
 // Whether the answer or a table differs.

@@ -17,7 +17,7 @@ const TEXT_ROOM: usize = 65536;
 
 fn try_group(rt: &HostRuntime, name: &str) -> io::Result<Tally> {
     let mut text = [0u8; TEXT_ROOM];
-    group::try_group(rt, name, &mut text, |rt, line| case::differs(rt, line))
+    group::try_group(rt, name, &mut text, case::differs)
 }
 
 fn main(rt: HostRuntime) -> io::Result<()> {

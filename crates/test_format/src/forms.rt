@@ -9,15 +9,9 @@ use test_support::{file, say};
 
 // Whether a form of marks is as a book that was read leaves it: its front what a form of zeros becomes, and marks beyond.
 fn is_filled(bytes: &[u8], form: &[u16]) -> bool {
-    if form.len() < LENGTH {
-        return false;
-    }
     let mut other = [0u16; LENGTH];
     read(bytes, &mut other[..]);
-    if !tables::row_stands_at(form, 0, &other[..]) {
-        return false;
-    }
-    is_marked(&form[LENGTH..])
+    form.starts_with(&other) && is_marked(&form[LENGTH..])
 }
 
 // Whether a form of marks is as the answer to these bytes leaves it: a refusal leaves the marks.
@@ -73,7 +67,7 @@ pub fn differs(rt: &HostRuntime, book: &[u8], numbers: &[u8]) -> io::Result<bool
     put_file(rt, numbers, &mut expected[..])?;
     let mut found = [MARK; LENGTH];
     read_file(rt, book, &mut found[..])?;
-    if tables::row_stands_at(&found[..], 0, &expected[..]) {
+    if found == expected {
         return Ok(false);
     }
     say::note(rt, book, "another form")?;

@@ -18,17 +18,15 @@ use test_support::{group, say};
 
 // Whether a case differs, which is then said.
 fn differs(rt: &HostRuntime, line: &[u8]) -> io::Result<bool> {
-    if 0 < line.len() {
-        if line[0] == b'w' {
-            return writing::differs(rt, line);
-        }
+    if line.first() == Some(&b'w') {
+        return writing::differs(rt, line);
     }
     reading::differs(rt, line)
 }
 
 fn try_group(rt: &HostRuntime, name: &str) -> io::Result<Tally> {
     let mut text = [0u8; FILE_ROOM];
-    group::try_group(rt, name, &mut text, |rt, line| differs(rt, line))
+    group::try_group(rt, name, &mut text, differs)
 }
 
 // The forms of River and Lake in both versions, and one with a predicate that takes two bytes, number by number.

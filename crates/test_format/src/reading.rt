@@ -15,15 +15,7 @@ const WRITTEN_ROOM: usize = INPUT_LIMIT + 4;
 // Whether a form is written as these bytes, and nothing beyond them.
 fn is_written_back(form: &[u16], book: &[u8]) -> bool {
     let mut list = [bytes::MARK; WRITTEN_ROOM];
-    let transfer = write(form, &mut list[..]);
-    let found = shown(transfer);
-    if found.refusal != 0 {
-        return false;
-    }
-    if found.place != book.len() {
-        return false;
-    }
-    bytes::is_right(book, 0, &list[..])
+    write(form, &mut list[..]) == Ok(book.len()) && bytes::is_right(book, 0, &list[..])
 }
 
 // Whether the answer, the form of marks or what is written back differs.

@@ -11,34 +11,17 @@ const FACT_WIDTH: usize = 5;
 
 // Whether a table has zeros from a place on in its front part, and marks beyond.
 fn is_ended(table: &[u16], from: usize, front: usize) -> bool {
-    if table.len() < front {
-        return false;
-    }
-    if front < from {
-        return false;
-    }
-    if !is_full(&table[from..front], 0) {
-        return false;
-    }
-    is_marked(&table[front..])
-}
-
-fn are_marked(terms: &[u16], facts: &[u16]) -> bool {
-    if !is_marked(terms) {
-        return false;
-    }
-    is_marked(facts)
+    front <= table.len()
+        && from <= front
+        && is_full(&table[from..front], 0)
+        && is_marked(&table[front..])
 }
 
 // Whether the tables are as a case says, by its columns.
 pub fn are_right(columns: &[u8], terms: &[u16], facts: &[u16]) -> bool {
-    if 0 < columns.len() {
-        if columns[0] == b'-' {
-            return are_marked(terms, facts);
-        }
+    if columns.first() == Some(&b'-') {
+        return is_marked(terms) && is_marked(facts);
     }
-    if !is_ended(terms, four(columns, 0) * TERM_WIDTH, TERMS_FRONT) {
-        return false;
-    }
-    is_ended(facts, four(columns, 5) * FACT_WIDTH, FACTS_FRONT)
+    is_ended(terms, four(columns, 0) * TERM_WIDTH, TERMS_FRONT)
+        && is_ended(facts, four(columns, 5) * FACT_WIDTH, FACTS_FRONT)
 }

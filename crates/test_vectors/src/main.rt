@@ -17,7 +17,7 @@ const FILE_ROOM: usize = 4096;
 
 fn try_group(rt: &HostRuntime, name: &str) -> io::Result<Tally> {
     let mut text = [0u8; FILE_ROOM];
-    group::try_group(rt, name, &mut text, |rt, line| printing::differs(rt, line))
+    group::try_group(rt, name, &mut text, printing::differs)
 }
 
 fn main(rt: HostRuntime) -> io::Result<()> {
