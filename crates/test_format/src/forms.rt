@@ -10,7 +10,7 @@ use test_support::{file, say};
 // Whether a form of marks is as a book that was read leaves it: its front what a form of zeros becomes, and marks beyond.
 fn is_filled(bytes: &[u8], form: &[u16]) -> bool {
     let mut other = [0u16; LENGTH];
-    read(bytes, &mut other[..]);
+    let _ = read(bytes, &mut other[..]);
     form.starts_with(&other) && is_marked(&form[LENGTH..])
 }
 
@@ -57,7 +57,7 @@ fn read_file(rt: &HostRuntime, path: &[u8], form: &mut [u16]) -> io::Result<()> 
     };
     let mut bytes = [0u8; FILE_ROOM];
     let n = file::load(file, &mut bytes[..])?;
-    read(&bytes[..n], form);
+    let _ = read(&bytes[..n], form);
     Ok(())
 }
 

@@ -41,7 +41,7 @@ pub fn differs(rt: &HostRuntime, line: &[u8]) -> io::Result<bool> {
     let mut book = [0u8; INPUT_LIMIT];
     let n = file::load(file, &mut book[..])?;
     let mut form = [numbers::MARK; LENT_LIMIT];
-    read(&book[..n], &mut form[..]);
+    let _ = read(&book[..n], &mut form[..]);
     put(&line[20..], &mut form[..]);
     let mut list = [bytes::MARK; LENT_LIMIT];
     let room = four(line, 10);
