@@ -12,7 +12,9 @@ use Rattle.model.specs.Limits.{fact_width}
 use Rattle.model.specs.Form.{atom_row}
 use Rattle.laws.proofs.Lists.{get_d_map}
 use Rattle.laws.proofs.Places.{length_numbers_from, numbers_from_more}
-use Rattle.form.specs.Places.{atom_place, Held, AtomAt, GroupAt, arities_of, rules_of, rule_of, disjunct_of, atom_of, group_of, filled, no_row, atom_rows, atom_arities, atom_predicates, head_rows, head_arities, head_counts}
+use Rattle.form.specs.declared.atoms.Atoms.{Atoms}
+use Rattle.form.specs.declared.atoms.Sizes.{Sizes}
+use Rattle.form.specs.Places.{atom_place, Held, AtomAt, GroupAt, arities_of, rules_of, rule_of, disjunct_of, atom_of, group_of, filled, no_row, atom_rows, atom_arities, atom_predicates, head_rows, head_arities, head_counts, atoms_of, sizes_of, disjunct_at}
 use Rattle.form.proofs.Lists.{filled_more, padded_filled}
 use Rattle.form.proofs.Places.{variables_place, predicate_place, few_disjuncts, no_atom, atom_stands, atom_read}
 
@@ -92,6 +94,14 @@ module _ (form : List ℕ) (i d : ℕ) (h : d < length (rule_of form i).head) wh
   pub head_count : {xs : List ℕ} → xs ≡ head_counts (rule_of form i).head → (w : ℕ) → get_or xs d w ≡ length (disjunct_of form i d)
   unfolding head_counts disjunct_of
   head_count e w = ap (λ (ys : List ℕ). get_or ys d w) e ∙ filled_at_lem length 0 (rule_of form i).head d [] w h
+
+  -- as the code takes them together
+  pub head_disjunct_is : {head : List (List (List ℕ))} {sizes : Sizes} → head ≡ head_rows (rule_of form i).head → sizes ≡ sizes_of (rule_of form i).head
+      → disjunct_at head sizes d ≡ atoms_of (disjunct_of form i d)
+  head_disjunct_is {head} {sizes} e f =
+      let atoms : List (List ℕ) → List ℕ → ℕ → Atoms = λ rows arities count. record { rows = rows; arities = arities; count = count } in
+      ap₂ (λ (rows : List (List ℕ)) (arities : List ℕ). atoms rows arities (get_or sizes.counts d 0)) (head_rows_is e []) (head_arities_is (ap (λ (s : Sizes). s.arities) f) [])
+      ∙ ap (atoms (atom_rows (disjunct_of form i d)) (atom_arities (disjunct_of form i d))) (head_count (ap (λ (s : Sizes). s.counts) f) 0)
 
 -- the predicate of an atom is the first number of its row
 pub predicates_rows : (as' : List Atom) (d : ℕ) → d < length as' → get_or (get_or (atom_rows as') d []) 0 0 ≡ get_or (atom_predicates as') d 0

@@ -3,6 +3,8 @@ use Rattle.std.specs.Prelude.{List, [], ◌++◌, map, ℕ, ◌+◌, ◌-◌, �
 use Rattle.model.specs.Rules.{Atom, Rule}
 use Rattle.model.specs.WellFormed.{WellFormedAtom, WellFormedAtoms, WellFormed}
 use Rattle.model.specs.Limits.{fact_width}
+use Rattle.form.specs.declared.atoms.Atoms.{Atoms}
+use Rattle.form.specs.declared.atoms.Sizes.{Sizes}
 use Rattle.model.specs.Form.{group_width, rule_width, arities_place, form_length, decoded, atom_row, atom_at, group_at}
 
 -- The places of a form: of rule i; of group g of the rule at a place, its body being group 0 and disjunct d group d + 1; of these two; of
@@ -95,3 +97,15 @@ head_arities ds = filled 4 (replicate 4 0) (map atom_arities ds)
 
 unfoldable pub head_counts : List (List Atom) → List ℕ
 head_counts ds = filled 4 0 (map length ds)
+
+-- up to four atoms as the code has them
+abbrev pub atoms_of : List Atom → Atoms
+atoms_of as' = record { rows = atom_rows as'; arities = atom_arities as'; count = length as' }
+
+-- what goes with the rows of up to four disjuncts
+abbrev pub sizes_of : List (List Atom) → Sizes
+sizes_of ds = record { arities = head_arities ds; counts = head_counts ds; count = length ds }
+
+-- the disjunct at a place of these
+abbrev pub disjunct_at : List (List (List ℕ)) → Sizes → ℕ → Atoms
+disjunct_at head sizes d = record { rows = get_or head d []; arities = get_or sizes.arities d []; count = get_or sizes.counts d 0 }

@@ -7,4 +7,4 @@ use Rattle.form.proofs.Rows.{Filling}
 use Rattle.form.proofs.atoms.head.Given as goal
 
 abbrev pub invariant-loop-d : goal.invariant-loop-d
-invariant-loop-d l = Filling atom_rows (replicate 4 no_row) (rule_of l.form l.i).head l.n l.d l.rows
+invariant-loop-d l = Filling atom_rows (replicate 4 no_row) (rule_of l.form l.i).head l.n l.d l.head

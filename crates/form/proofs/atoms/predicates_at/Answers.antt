@@ -15,7 +15,7 @@ pub loop-k-preserved : goal.loop-k-preserved
 loop-k-preserved c =
     let i = c in
     let s = i in
-    let p = c.atom_place-atom in
+    let p = c.atom_place in
     filling_atom s.requires i.loop-k.invariant i.loop-k-test.true p.ensures (sym (predicate_place s.args.form.now p.result))
 
 pub returns : goal.returns

@@ -9,15 +9,15 @@ use Rattle.form.proofs.atoms.rows_at.Goals as goal
 pub loop-k-init : goal.loop-k-init
 loop-k-init c = filling_first (first_atom c.requires c.group_count-n.ensures)
 
-pub row_at-row-requires : goal.row_at-row-requires
-row_at-row-requires c =
+pub row_at-requires : goal.row_at-requires
+row_at-requires c =
     let i = c in
     atom_turn i.requires i.loop-k.invariant.turn i.loop-k-test.true c.atom_place.ensures
 
 pub loop-k-preserved : goal.loop-k-preserved
 loop-k-preserved c =
     let i = c in
-    filling_atom i.requires i.loop-k.invariant i.loop-k-test.true c.atom_place.ensures c.row_at-row.ensures
+    filling_atom i.requires i.loop-k.invariant i.loop-k-test.true c.atom_place.ensures c.row_at.ensures
 
 pub returns : goal.returns
 unfolding atom_rows
