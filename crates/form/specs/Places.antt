@@ -1,5 +1,6 @@
 -- What a form holds, by rule and disjunct number, and a rule's atoms as rows of five numbers. Assumes nothing.
-use Rattle.std.specs.Prelude.{List, [], ◌++◌, map, ℕ, ◌+◌, ◌-◌, ◌*◌, ◌≤◌, ◌<◌, length, get_or, replicate}
+use Rattle.std.specs.Prelude.{◌≡◌, List, [], ◌++◌, map, ℕ, ◌+◌, ◌-◌, ◌*◌, ◌≤◌, ◌<◌, length, get_or, replicate}
+use Rattle.std.specs.Borrow.{Bor}
 use Rattle.model.specs.Rules.{Atom, Rule}
 use Rattle.model.specs.WellFormed.{WellFormedAtom, WellFormedAtoms, WellFormed}
 use Rattle.model.specs.Limits.{fact_width}
@@ -72,6 +73,18 @@ module _ {A : Type 0} where
   -- xs, and then z up to n elements
   unfoldable pub filled : ℕ → A → List A → List A
   filled n z xs = xs ++ replicate (n - length xs) z
+
+-- a call at a form and a place may have returned x
+pub record Returned {R : Type 0} (post : Bor (List ℕ) → ℕ → R → Type 0) (form : List ℕ) (at : ℕ) (x : R) : Type 0 where
+  pub lent : Bor (List ℕ)
+  pub same : lent.now ≡ form
+  pub by : post lent at x
+
+-- four values: for each of so many places one that is given there, and then z
+pub record Each {A : Type 0} (gives : ℕ → A → Type 0) (n : ℕ) (z : A) (xs : List A) : Type 0 where
+  pub four : length xs ≡ 4
+  pub each : (k : ℕ) → k < n → gives k (get_or xs k z)
+  pub rest : (k : ℕ) → n ≤ k → get_or xs k z ≡ z
 
 abbrev pub no_row : List ℕ
 no_row = replicate fact_width 0

@@ -1,8 +1,8 @@
 // A rule's atoms out of a form, by value: rows of five numbers, the predicate and its variables, zeros behind them.
 // Contracts: specs/Places.
-ghost use Rattle.std.specs.Prelude.{◌≡◌, ◌<◌, length};
+ghost use Rattle.std.specs.Prelude.{◌≡◌, ℕ, ◌<◌, length};
 ghost use Rattle.model.specs.Form.{atom_row};
-ghost use Rattle.form.specs.Places.{Held, AtomAt, GroupAt, rules_of, rule_of, disjunct_of, atom_of, group_of, atom_rows, atom_arities, atom_predicates, head_rows, atoms_of, sizes_of, disjunct_at};
+ghost use Rattle.form.specs.Places.{atom_place, disjunct_place, Returned, Each, Held, AtomAt, GroupAt, rules_of, rule_of, disjunct_of, atom_of, group_of, atom_rows, atom_arities, atom_predicates, head_rows, atoms_of, sizes_of, disjunct_at};
 
 use crate::counts::{arity, body_group, disjunct_count, disjunct_group, group_count};
 use crate::layout::atom_place;
@@ -45,6 +45,14 @@ pub fn arity_at(form: &[u16], at: usize) -> usize
     arity(form, usize::from(form[at]))
 }
 
+// The predicate of the atom at a place.
+fn predicate_at(form: &[u16], at: usize) -> u16
+    requires { AtomAt form.now at }
+    ensures { result ≡ (atom_of form.now at).predicate }
+{
+    form[at]
+}
+
 // The row of the atom at a place.
 fn row_at(form: &[u16], at: usize) -> [u16; 5]
     requires { AtomAt form.now at }
@@ -59,17 +67,45 @@ fn row_at(form: &[u16], at: usize) -> [u16; 5]
     row
 }
 
+// What `of` gives at the place of each atom of the group at a place, and `none` behind them.
+fn each_atom<T: Copy, F: Fn(&[u16], usize) -> T>(form: &[u16], at: usize, none: T, of: F) -> [T; 4]
+    requires group { GroupAt form.now at }
+    requires takes { (p : ℕ) → AtomAt form.now p → F.pre of form p }
+    ensures { Each (λ k. Returned (F.post of) form.now (atom_place at k)) (length (group_of form.now at)) none result }
+{
+    let n = group_count(form, at);
+    let mut each = [none; 4];
+    for k in 0..n {
+        each[k] = of(form, atom_place(at, k));
+    }
+    each
+}
+
+// What `of` gives at the place of each disjunct of rule `i`, and `none` behind them.
+fn each_disjunct<T: Copy, F: Fn(&[u16], usize) -> T>(
+    form: &[u16],
+    i: usize,
+    none: T,
+    of: F,
+) -> [T; 4]
+    requires rule { Held form.now × (i < length (rules_of form.now)) }
+    requires takes { (g : ℕ) → GroupAt form.now g → F.pre of form g }
+    ensures { Each (λ d. Returned (F.post of) form.now (disjunct_place i d)) (length (rule_of form.now i).head) none result }
+{
+    let n = disjunct_count(form, i);
+    let mut each = [none; 4];
+    for d in 0..n {
+        each[d] = of(form, disjunct_group(form, i, d));
+    }
+    each
+}
+
 // The rows of the atoms of the group at a place.
 fn rows_at(form: &[u16], at: usize) -> [[u16; 5]; 4]
     requires { GroupAt form.now at }
     ensures { result ≡ atom_rows (group_of form.now at) }
 {
-    let n = group_count(form, at);
-    let mut rows = [[0u16; 5]; 4];
-    for k in 0..n {
-        rows[k] = row_at(form, atom_place(at, k));
-    }
-    rows
+    each_atom(form, at, [0; 5], row_at)
 }
 
 // The arities of the atoms of the group at a place.
@@ -77,12 +113,7 @@ fn arities_at(form: &[u16], at: usize) -> [usize; 4]
     requires { GroupAt form.now at }
     ensures { result ≡ atom_arities (group_of form.now at) }
 {
-    let n = group_count(form, at);
-    let mut arities = [0usize; 4];
-    for k in 0..n {
-        arities[k] = arity_at(form, atom_place(at, k));
-    }
-    arities
+    each_atom(form, at, 0, arity_at)
 }
 
 // The atoms of the group at a place.
@@ -104,12 +135,7 @@ fn predicates_at(form: &[u16], at: usize) -> [u16; 4]
     requires { GroupAt form.now at }
     ensures { result ≡ atom_predicates (group_of form.now at) }
 {
-    let n = group_count(form, at);
-    let mut predicates = [0u16; 4];
-    for k in 0..n {
-        predicates[k] = form[atom_place(at, k)];
-    }
-    predicates
+    each_atom(form, at, 0, predicate_at)
 }
 
 // The body atoms of rule `i`.
@@ -140,12 +166,7 @@ pub fn head(form: &[u16], i: usize) -> [[[u16; 5]; 4]; 4]
     requires { Held form.now × (i < length (rules_of form.now)) }
     ensures { result ≡ head_rows (rule_of form.now i).head }
 {
-    let n = disjunct_count(form, i);
-    let mut head = [[[0u16; 5]; 4]; 4];
-    for d in 0..n {
-        head[d] = rows_at(form, disjunct_group(form, i, d));
-    }
-    head
+    each_disjunct(form, i, [[0; 5]; 4], rows_at)
 }
 
 // What goes with them.
@@ -153,17 +174,11 @@ pub fn head_sizes(form: &[u16], i: usize) -> Sizes
     requires { Held form.now × (i < length (rules_of form.now)) }
     ensures { result ≡ sizes_of (rule_of form.now i).head }
 {
-    let count = disjunct_count(form, i);
-    let mut arities = [[0usize; 4]; 4];
-    let mut counts = [0usize; 4];
-    for d in 0..count {
-        let group = disjunct_group(form, i, d);
-        arities[d] = arities_at(form, group);
-        counts[d] = group_count(form, group);
-    }
+    let arities = each_disjunct(form, i, [0; 4], arities_at);
+    let counts = each_disjunct(form, i, 0, group_count);
     Sizes {
         arities,
         counts,
-        count,
+        count: disjunct_count(form, i),
     }
 }
