@@ -11,7 +11,7 @@ use Rattle.form.proofs.atoms.each_disjunct.Goals as goal
 pub loop-d-init : goal.loop-d-init
 loop-d-init g c =
     let few = few_disjuncts c.args.form.now c.requires.rule.0 c.args.i c.requires.rule.1 in
-    record { few = omega (arith, c.disjunct_count-n.ensures); given = each_first }
+    record { few = omega (arith, c.disjunct_count-n.ensures); given = each_first {gives = λ d. Returned (goal.F-post g c.args.of) c.args.form.now (disjunct_place c.args.i d)} }
 
 pub disjunct_group-requires : goal.disjunct_group-requires
 disjunct_group-requires g c = (c.requires.rule.0, c.requires.rule.1, omega arith)
