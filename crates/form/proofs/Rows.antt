@@ -1,20 +1,27 @@
 -- Arrays of four as the code fills them, one atom or one disjunct after the other, and the row of an atom. Assumes nothing.
-use mathlib.Core.Path.{◌≡◌, refl, sym, ap, ap₂, ◌∙◌}
-use mathlib.Core.List.{List, [], ◌∷◌, ◌++◌, map, map-append}
+use mathlib.Core.Path.{◌≡◌, refl, sym, ap, ap₂, ◌∙◌, subst}
+use mathlib.Core.Logic.{inl, inr}
+use mathlib.Core.List.{List, [], ◌∷◌, map}
 use Prim.Native.Nat.{ℕ, ◌+◌, ◌-◌, ◌≤◌, ◌<◌}
 use native.Mathlib.Omega.{arith}
 use native.Mathlib.Numerals.{add-one}
-use lib.ListN.{length, get_or, set, take, replicate, length-map, get_or-append}
-use lib.Seq.{take-suc, take_all, length-take-le}
+use lib.ListN.{length-append, get_or-eq_default, length, get_or, set, replicate, length-map, length-set, get_or-append}
+use borrow.Author.Count.{below_more}
+use Rattle.std.proofs.lemmas.Bool.{cases_lt}
+use Rattle.std.proofs.lemmas.List.{get_or-replicate, length-replicate}
+use lib.Seq.{ext_get_or, get_or-set_same, get_or-append_right, get_or-set_other}
 use Rattle.model.specs.Lists.{numbers_from, padded}
 use Rattle.model.specs.Rules.{Atom}
 use Rattle.model.specs.Limits.{fact_width}
 use Rattle.model.specs.Form.{atom_row}
 use Rattle.laws.proofs.Lists.{get_d_map}
 use Rattle.laws.proofs.Places.{length_numbers_from, numbers_from_more}
-use Rattle.form.specs.Places.{atom_place, Held, AtomAt, GroupAt, arities_of, rules_of, rule_of, disjunct_of, atom_of, group_of, filled, no_row, atom_rows, atom_arities, atom_predicates, head_rows, head_arities, head_counts}
+use Rattle.std.specs.Borrow.{Bor}
+use Rattle.form.specs.declared.atoms.Atoms.{Atoms}
+use Rattle.form.specs.declared.atoms.Sizes.{Sizes}
+use Rattle.form.specs.Places.{atom_place, disjunct_place, Returned, Each, Held, AtomAt, GroupAt, arities_of, rules_of, rule_of, disjunct_of, atom_of, group_of, filled, no_row, atom_rows, atom_arities, atom_predicates, head_rows, head_arities, head_counts, atoms_of, sizes_of, disjunct_at}
 use Rattle.form.proofs.Lists.{filled_more, padded_filled}
-use Rattle.form.proofs.Places.{variables_place, predicate_place, few_disjuncts, no_atom, atom_stands, atom_read}
+use Rattle.form.proofs.Places.{variables_place, predicate_place, few_disjuncts, no_atom, atom_stands, atom_read, disjunct_stands_is}
 
 -- a loop has gone through k of the n elements of a list, at most four
 pub record Turn {A : Type 0} (ys : List A) (n k : ℕ) : Type 0 where
@@ -24,6 +31,76 @@ pub record Turn {A : Type 0} (ys : List A) (n k : ℕ) : Type 0 where
 
 pub next_turn : {A : Type 0} {ys : List A} {n k : ℕ} → Turn ys n k → k < n → Turn ys n (k + 1)
 next_turn t h = record { count = t.count; few = t.few; within = omega arith }
+
+-- what stands at a place of what is filled
+pub filled_at_lem : {A B : Type 0} (g : A → B) (z : B) (ys : List A) (d : ℕ) (y : A) (w : B) → d < length ys → get_or (filled 4 z (map g ys)) d w ≡ g (get_or ys d y)
+unfolding filled
+filled_at_lem g z ys d y w h = get_or-append (map g ys) (replicate (4 - length (map g ys)) z) w d (omega (arith, length-map ys g)) ∙ get_d_map g ys d w y h
+
+get_or_same : {A : Type 0} (n : ℕ) (z : A) (k : ℕ) → get_or (replicate n z) k z ≡ z
+get_or_same n z k = elim (cases_lt k n) [ inl h ↦ get_or-replicate n k z z h | inr h ↦ get_or-eq_default (replicate n z) z (omega (arith, length-replicate n z)) ]
+
+pub returned : {R : Type 0} {post : Bor (List ℕ) → ℕ → R → Type 0} (lent : Bor (List ℕ)) (at : ℕ) {p : ℕ} {x : R} → p ≡ at → post lent p x → Returned post lent.now at x
+returned {post = post} lent at {x = x} e r = record { lent = lent; same = refl; by = subst (λ (q : ℕ). post lent q x) e r }
+
+-- a loop has given the first k of four values
+module _ {A : Type 0} {gives : ℕ → A → Type 0} {z : A} where
+  pub each_first : Each gives 0 z (replicate 4 z)
+  each_first = record { four = refl; each = λ k h. absurd (omega arith); rest = λ k h. get_or_same 4 z k }
+
+  pub each_more : {k : ℕ} {xs : List A} {x : A} → k < 4 → Each gives k z xs → gives k x → Each gives (k + 1) z (set xs k x)
+  each_more {k} {xs} {x} h e here =
+      let four = e.four in
+      let set' : List A = set xs k x in
+      record {
+        four = length-set xs k x ∙ four;
+        each =
+            below_more (λ j. gives j (get_or set' j z)) k (λ j l. subst (gives j) (sym (get_or-set_other xs k j x z (λ q. omega arith))) (e.each j l))
+            (subst (gives k) (sym (get_or-set_same xs k x z (omega arith))) here);
+        rest = λ j l. get_or-set_other xs k j x z (λ q. omega arith) ∙ e.rest j (omega arith);
+      }
+
+-- four values are those of a list and then z
+pub each_filled : {A B : Type 0} (g : A → B) (z : B) (ys : List A) (d : A) {xs : List B} → length ys ≤ 4
+    → Each (λ k x. x ≡ g (get_or ys k d)) (length ys) z xs → xs ≡ filled 4 z (map g ys)
+unfolding filled
+each_filled g z ys d {xs} few e =
+    let many = length-map ys g in
+    let four = e.four in
+    let rest : ℕ = 4 - length (map g ys) in
+    let long : length (filled 4 z (map g ys)) ≡ 4 = omega (arith, length-append (map g ys) (replicate rest z), length-replicate rest z) in
+    ext_get_or z xs (filled 4 z (map g ys)) (four ∙ sym long)
+    (λ i l.
+    elim (cases_lt i (length ys)) [
+      | inl h ↦ e.each i h ∙ sym (filled_at_lem g z ys i d z h)
+      | inr h ↦ e.rest i h ∙ sym (get_or-append_right (map g ys) (replicate rest z) i z (omega arith) ∙ get_or_same rest z (i - length (map g ys)))
+    ])
+
+-- what was returned at the places of the atoms of a group, or of the disjuncts of a rule, where it is what g gives of them
+pub atoms_returned : {B : Type 0} (g : Atom → B) (z : B) {post : Bor (List ℕ) → ℕ → B → Type 0} {form : List ℕ} {at : ℕ} {xs : List B} → GroupAt form at
+    → Each (λ k. Returned post form (atom_place at k)) (length (group_of form at)) z xs
+    → ((lent : Bor (List ℕ)) (p : ℕ) (x : B) → post lent p x → x ≡ g (atom_of lent.now p)) → xs ≡ filled 4 z (map g (group_of form at))
+atoms_returned g z {form = form} {at = at} r e says =
+    let few = r.atoms.few in
+    each_filled g z (group_of form at) no_atom few
+    (record {
+      four = e.four;
+      each = λ k h. let x = e.each k h in atom_read r k h refl g (says x.lent (atom_place at k) _ x.by ∙ ap (λ (f : List ℕ). g (atom_of f (atom_place at k))) x.same);
+      rest = e.rest;
+    })
+
+pub disjuncts_returned : {B : Type 0} (g : List Atom → B) (z : B) {post : Bor (List ℕ) → ℕ → B → Type 0} {form : List ℕ} {i : ℕ} {xs : List B}
+    → Held form × (i < length (rules_of form))
+    → Each (λ d. Returned post form (disjunct_place i d)) (length (rule_of form i).head) z xs
+    → ((lent : Bor (List ℕ)) (p : ℕ) (x : B) → post lent p x → x ≡ g (group_of lent.now p)) → xs ≡ filled 4 z (map g (rule_of form i).head)
+unfolding disjunct_of
+disjuncts_returned g z {form = form} {i = i} r e says =
+    each_filled g z (rule_of form i).head [] (few_disjuncts form r.0 i r.1)
+    (record {
+      four = e.four;
+      each = λ d h. let x = e.each d h in says x.lent (disjunct_place i d) _ x.by ∙ ap (λ (f : List ℕ). g (group_of f (disjunct_place i d))) x.same ∙ ap g (disjunct_stands_is (r.0, r.1, h) refl).1;
+      rest = e.rest;
+    })
 
 -- the turns of a loop over the atoms of a group, and of one over the disjuncts of a rule
 
@@ -37,46 +114,24 @@ module _ {form : List ℕ} {at : ℕ} (r : GroupAt form at) {n : ℕ} where
 pub first_disjunct : {form : List ℕ} {i n : ℕ} → Held form × (i < length (rules_of form)) → n ≡ length (rule_of form i).head → Turn (rule_of form i).head n 0
 first_disjunct {form} {i} r e = record { count = e; few = omega (arith, few_disjuncts form r.0 i r.1); within = omega arith }
 
--- a loop has filled the front of an array with what g gives of the first k of n elements
-pub record Filling {A B : Type 0} (g : A → B) (z : B) (ys : List A) (n k : ℕ) (xs : List B) : Type 0 where
-  pub turn : Turn ys n k
-  pub front : xs ≡ filled 4 z (map g (take k ys))
+-- structs are alike part by part
 
-module _ {A B : Type 0} {g : A → B} {z : B} where
-  pub filling_first : {ys : List A} {n : ℕ} → Turn ys n 0 → Filling g z ys n 0 (replicate 4 z)
-  unfolding filled
-  filling_first t = record { turn = t; front = refl }
+ap₃ : {A B C D : Type 0} (f : A → B → C → D) {a a' : A} {b b' : B} {c c' : C} → a ≡ a' → b ≡ b' → c ≡ c' → f a b c ≡ f a' b' c'
+ap₃ {A} {B} f {a' = a'} {b' = b'} {c = c} p q r = ap₂ (λ (x : A) (y : B). f x y c) p q ∙ ap (f a' b') r
 
-  pub filling_more : {ys : List A} {n k : ℕ} {xs : List B} → Filling g z ys n k xs → k < n → (y : A) {x : B} → x ≡ g (get_or ys k y)
-      → Filling g z ys n (k + 1) (set xs k x)
-  filling_more {ys} {n} {k} {xs} f h y {x} e =
-      let t = f.turn in
-      let l : length (map g (take k ys)) ≡ k = length-map (take k ys) g ∙ length-take-le k ys (omega arith) in
-      record {
-        turn = next_turn t h;
-        front =
-            ap (λ (ws : List B). set ws k x) f.front
-            ∙ filled_more 4 z (map g (take k ys)) k x l (omega arith)
-            ∙ ap (λ (w : B). filled 4 z (map g (take k ys) ++ (w ∷ []))) e
-            ∙ ap (filled 4 z) (sym (ap (map g) (ap (λ (m : ℕ). take m ys) (add-one k) ∙ take-suc ys k y (omega arith)) ∙ map-append g (take k ys) (get_or ys k y ∷ [])));
-      }
+abbrev atoms : List (List ℕ) → List ℕ → ℕ → Atoms
+atoms rows arities count = record { rows = rows; arities = arities; count = count }
 
-  pub filling_last : {ys : List A} {n k : ℕ} {xs : List B} → Filling g z ys n k xs → n ≤ k → xs ≡ filled 4 z (map g ys)
-  filling_last {ys} {n} {k} f h =
-      let t = f.turn in
-      f.front ∙ ap (λ (ws : List A). filled 4 z (map g ws)) (take_all k ys (omega arith))
+abbrev sizes : List (List ℕ) → List ℕ → ℕ → Sizes
+sizes arities counts count = record { arities = arities; counts = counts; count = count }
 
--- one atom more of a group
-pub filling_atom : {B : Type 0} {g : Atom → B} {z : B} {form : List ℕ} {at : ℕ} → GroupAt form at → {n k p : ℕ} {xs : List B} {x : B}
-    → Filling g z (group_of form at) n k xs → k < n → p ≡ atom_place at k → x ≡ g (atom_of form p) → Filling g z (group_of form at) n (k + 1) (set xs k x)
-filling_atom {g = g} r {k = k} f h e x =
-    let t = f.turn in
-    filling_more f h no_atom (atom_read r k (omega arith) e g x)
+pub atoms_are : {rows rows' : List (List ℕ)} {arities arities' : List ℕ} {count count' : ℕ} → rows ≡ rows' → arities ≡ arities' → count ≡ count'
+    → atoms rows arities count ≡ atoms rows' arities' count'
+atoms_are p q r = ap₃ atoms p q r
 
--- what stands at a place of it
-pub filled_at_lem : {A B : Type 0} (g : A → B) (z : B) (ys : List A) (d : ℕ) (y : A) (w : B) → d < length ys → get_or (filled 4 z (map g ys)) d w ≡ g (get_or ys d y)
-unfolding filled
-filled_at_lem g z ys d y w h = get_or-append (map g ys) (replicate (4 - length (map g ys)) z) w d (omega (arith, length-map ys g)) ∙ get_d_map g ys d w y h
+pub sizes_are : {arities arities' : List (List ℕ)} {counts counts' : List ℕ} {count count' : ℕ} → arities ≡ arities' → counts ≡ counts' → count ≡ count'
+    → sizes arities counts count ≡ sizes arities' counts' count'
+sizes_are p q r = ap₃ sizes p q r
 
 -- a rule's head by disjuncts: at d stand the rows, the arities and the count of atoms of disjunct d
 
@@ -92,6 +147,11 @@ module _ (form : List ℕ) (i d : ℕ) (h : d < length (rule_of form i).head) wh
   pub head_count : {xs : List ℕ} → xs ≡ head_counts (rule_of form i).head → (w : ℕ) → get_or xs d w ≡ length (disjunct_of form i d)
   unfolding head_counts disjunct_of
   head_count e w = ap (λ (ys : List ℕ). get_or ys d w) e ∙ filled_at_lem length 0 (rule_of form i).head d [] w h
+
+  -- as the code takes them together
+  pub head_disjunct_is : {head : List (List (List ℕ))} {sizes : Sizes} → head ≡ head_rows (rule_of form i).head → sizes ≡ sizes_of (rule_of form i).head
+      → disjunct_at head sizes d ≡ atoms_of (disjunct_of form i d)
+  head_disjunct_is e f = atoms_are (head_rows_is e []) (head_arities_is (ap (λ (s : Sizes). s.arities) f) []) (head_count (ap (λ (s : Sizes). s.counts) f) 0)
 
 -- the predicate of an atom is the first number of its row
 pub predicates_rows : (as' : List Atom) (d : ℕ) → d < length as' → get_or (get_or (atom_rows as') d []) 0 0 ≡ get_or (atom_predicates as') d 0

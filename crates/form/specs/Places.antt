@@ -1,8 +1,11 @@
 -- What a form holds, by rule and disjunct number, and a rule's atoms as rows of five numbers. Assumes nothing.
-use Rattle.std.specs.Prelude.{List, [], ◌++◌, map, ℕ, ◌+◌, ◌-◌, ◌*◌, ◌≤◌, ◌<◌, length, get_or, replicate}
+use Rattle.std.specs.Prelude.{◌≡◌, List, [], ◌++◌, map, ℕ, ◌+◌, ◌-◌, ◌*◌, ◌≤◌, ◌<◌, length, get_or, replicate}
+use Rattle.std.specs.Borrow.{Bor}
 use Rattle.model.specs.Rules.{Atom, Rule}
 use Rattle.model.specs.WellFormed.{WellFormedAtom, WellFormedAtoms, WellFormed}
 use Rattle.model.specs.Limits.{fact_width}
+use Rattle.form.specs.declared.atoms.Atoms.{Atoms}
+use Rattle.form.specs.declared.atoms.Sizes.{Sizes}
 use Rattle.model.specs.Form.{group_width, rule_width, arities_place, form_length, decoded, atom_row, atom_at, group_at}
 
 -- The places of a form: of rule i; of group g of the rule at a place, its body being group 0 and disjunct d group d + 1; of these two; of
@@ -71,6 +74,18 @@ module _ {A : Type 0} where
   unfoldable pub filled : ℕ → A → List A → List A
   filled n z xs = xs ++ replicate (n - length xs) z
 
+-- a call at a form and a place may have returned x
+pub record Returned {R : Type 0} (post : Bor (List ℕ) → ℕ → R → Type 0) (form : List ℕ) (at : ℕ) (x : R) : Type 0 where
+  pub lent : Bor (List ℕ)
+  pub same : lent.now ≡ form
+  pub by : post lent at x
+
+-- four values: for each of so many places one that is given there, and then z
+pub record Each {A : Type 0} (gives : ℕ → A → Type 0) (n : ℕ) (z : A) (xs : List A) : Type 0 where
+  pub four : length xs ≡ 4
+  pub each : (k : ℕ) → k < n → gives k (get_or xs k z)
+  pub rest : (k : ℕ) → n ≤ k → get_or xs k z ≡ z
+
 abbrev pub no_row : List ℕ
 no_row = replicate fact_width 0
 
@@ -95,3 +110,15 @@ head_arities ds = filled 4 (replicate 4 0) (map atom_arities ds)
 
 unfoldable pub head_counts : List (List Atom) → List ℕ
 head_counts ds = filled 4 0 (map length ds)
+
+-- up to four atoms as the code has them
+abbrev pub atoms_of : List Atom → Atoms
+atoms_of as' = record { rows = atom_rows as'; arities = atom_arities as'; count = length as' }
+
+-- what goes with the rows of up to four disjuncts
+abbrev pub sizes_of : List (List Atom) → Sizes
+sizes_of ds = record { arities = head_arities ds; counts = head_counts ds; count = length ds }
+
+-- the disjunct at a place of these
+abbrev pub disjunct_at : List (List (List ℕ)) → Sizes → ℕ → Atoms
+disjunct_at head sizes d = record { rows = get_or head d []; arities = get_or sizes.arities d []; count = get_or sizes.counts d 0 }

@@ -6,24 +6,18 @@ use crate::layout::{
     PREDICATE_COUNT, RULE_COUNT, arity_place, body_place, disjunct_place, rule_place,
 };
 
-pub(crate) fn wide(x: u16) -> usize
-    ensures { result ≡ x }
-{
-    x as usize
-}
-
 pub fn predicate_count(form: &[u16]) -> usize
     requires { Held form.now }
     ensures { result ≡ length (arities_of form.now) }
 {
-    wide(form[PREDICATE_COUNT])
+    usize::from(form[PREDICATE_COUNT])
 }
 
 pub fn rule_count(form: &[u16]) -> usize
     requires { Held form.now }
     ensures { result ≡ length (rules_of form.now) }
 {
-    wide(form[RULE_COUNT])
+    usize::from(form[RULE_COUNT])
 }
 
 // The arity of predicate `p`.
@@ -32,7 +26,7 @@ pub fn arity(form: &[u16], p: usize) -> usize
     ensures { result ≡ get_or (arities_of form.now) p 0 }
 {
     let at = arity_place(p);
-    wide(form[at])
+    usize::from(form[at])
 }
 
 // How many atoms the group at a place has.
@@ -40,7 +34,7 @@ pub fn group_count(form: &[u16], at: usize) -> usize
     requires { GroupAt form.now at }
     ensures { result ≡ length (group_of form.now at) }
 {
-    wide(form[at])
+    usize::from(form[at])
 }
 
 // The place of the body of rule `i`, where a group of the form stands.
@@ -73,7 +67,7 @@ pub fn disjunct_count(form: &[u16], i: usize) -> usize
     ensures { result ≡ length (rule_of form.now i).head }
 {
     let at = rule_place(i);
-    wide(form[at])
+    usize::from(form[at])
 }
 
 // How many atoms disjunct `d` of rule `i` has.

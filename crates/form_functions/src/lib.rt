@@ -17,9 +17,10 @@ fn functions_at(form: &[u16], j: usize) -> usize
     let i = j / 4;
     let d = j % 4;
     if d < disjunct_count(form, i) {
-        return skolem_count(form, i, d);
+        skolem_count(form, i, d)
+    } else {
+        0
     }
-    0
 }
 
 // For each place how many Skolem functions are numbered before its own, and how many there are in all.
@@ -41,14 +42,12 @@ fn place_of(before: &[u16], n: usize, f: u16) -> usize
     requires { (1 ≤ n) × (n ≤ length before.now) × (get_or before.now 0 0 < f) }
     ensures { (result < n) × (get_or before.now result 0 < f) × (result + 1 < n → f ≤ get_or before.now (result + 1) 0) }
 {
-    let mut j = 0;
-    while j + 1 < n {
-        if f <= before[j + 1] {
-            return j;
+    for j in 1..n {
+        if f <= before[j] {
+            return j - 1;
         }
-        j += 1;
     }
-    j
+    n - 1
 }
 
 // A rule and one of its disjuncts.

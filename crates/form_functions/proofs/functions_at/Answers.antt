@@ -23,8 +23,8 @@ pub returns-then-d-disjunct_count : goal.returns-then-d-disjunct_count
 unfolding functions_at
 returns-then-d-disjunct_count c = c.skolem_count.ensures
 
-pub returns : goal.returns
-returns c =
+pub returns-else-d-disjunct_count : goal.returns-else-d-disjunct_count
+returns-else-d-disjunct_count c =
     let s = c in
     let n = c.disjunct_count.ensures in
     let t = c.if-d-disjunct_count.false in

@@ -1,27 +1,10 @@
--- `form::atoms::arities_at` meets its contract. The loop's invariant: the arities of the first `k` atoms are there.
--- Assumes nothing.
-use Prim.Native.Nat.{◌-◌}
-use native.Mathlib.Omega.{arith}
+-- `form::atoms::arities_at` meets its contract. Assumes nothing.
+use lib.ListN.{length}
+use Rattle.model.specs.Rules.{Atom}
 use Rattle.form.specs.Places.{atom_arities}
-use Rattle.form.proofs.Rows.{first_atom, atom_turn, filling_first, filling_atom, filling_last}
+use Rattle.form.proofs.Rows.{atoms_returned}
 use Rattle.form.proofs.atoms.arities_at.Goals as goal
-
-pub loop-k-init : goal.loop-k-init
-loop-k-init c = filling_first (first_atom c.requires c.group_count-n.ensures)
-
-pub arity_at-requires : goal.arity_at-requires
-arity_at-requires c =
-    let i = c in
-    atom_turn i.requires i.loop-k.invariant.turn i.loop-k-test.true c.atom_place.ensures
-
-pub loop-k-preserved : goal.loop-k-preserved
-loop-k-preserved c =
-    let i = c in
-    filling_atom i.requires i.loop-k.invariant i.loop-k-test.true c.atom_place.ensures c.arity_at.ensures
 
 pub returns : goal.returns
 unfolding atom_arities
-returns c = filling_last c.loop-k.invariant (omega arith)
-
-pub group_count-n-requires : goal.group_count-n-requires
-group_count-n-requires c = c.requires
+returns c = atoms_returned (λ (a : Atom). length a.variables) 0 c.requires c.each_atom.ensures (λ lent p x by. by)

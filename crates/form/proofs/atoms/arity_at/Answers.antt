@@ -11,11 +11,11 @@ pub arity-requires : goal.arity-requires
 arity-requires c =
     let s = c in
     let f = s.args.form.now in
-    let w = c.wide.ensures in
+    let w = c.from.ensures in
     (s.requires.held, omega (arith, atom_declared f s.args.at s.requires))
 
 pub returns : goal.returns
 returns c =
     let s = c in
     let f = s.args.form.now in
-    c.arity.ensures ∙ ap (λ (p : ℕ). get_or (arities_of f) p 0) c.wide.ensures ∙ sym (count_variables f s.args.at)
+    c.arity.ensures ∙ ap (λ (p : ℕ). get_or (arities_of f) p 0) c.from.ensures ∙ sym (count_variables f s.args.at)

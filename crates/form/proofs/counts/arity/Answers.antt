@@ -17,4 +17,4 @@ bounds-form-at c = let s = c in omega (arith, few_predicates s.args.form.now s.r
 
 pub returns : goal.returns
 returns c = let s = c in
-    c.wide.ensures ∙ ap (λ (p : ℕ). get_or s.args.form.now p 0) c.arity_place-at.ensures ∙ sym (arity_place_is s.args.form.now s.args.p s.requires.1)
+    c.from.ensures ∙ ap (λ (p : ℕ). get_or s.args.form.now p 0) c.arity_place-at.ensures ∙ sym (arity_place_is s.args.form.now s.args.p s.requires.1)

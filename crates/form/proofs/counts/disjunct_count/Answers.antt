@@ -17,4 +17,4 @@ bounds-form-at c = omega (arith, rule_below c.requires)
 
 pub returns : goal.returns
 returns c = let s = c in
-    c.wide.ensures ∙ ap (λ (p : ℕ). get_or s.args.form.now p 0) c.rule_place-at.ensures ∙ sym (count_disjuncts s.args.form.now s.args.i s.requires.1)
+    c.from.ensures ∙ ap (λ (p : ℕ). get_or s.args.form.now p 0) c.rule_place-at.ensures ∙ sym (count_disjuncts s.args.form.now s.args.i s.requires.1)

@@ -4,4 +4,4 @@ use Rattle.form.proofs.Places.{count_predicates}
 use Rattle.form.proofs.counts.predicate_count.Goals as goal
 
 pub returns : goal.returns
-returns c = c.wide.ensures ∙ sym (count_predicates c.args.form.now)
+returns c = c.from.ensures ∙ sym (count_predicates c.args.form.now)

@@ -4,4 +4,4 @@ use Rattle.form.proofs.Places.{count_rules}
 use Rattle.form.proofs.counts.rule_count.Goals as goal
 
 pub returns : goal.returns
-returns c = c.wide.ensures ∙ sym (count_rules c.args.form.now)
+returns c = c.from.ensures ∙ sym (count_rules c.args.form.now)
