@@ -101,9 +101,7 @@ fn enter_origin(
     );
     let added = add_constants(&mut *table, n, form_variables::set_size(others));
     let atoms = form::atoms::body(form, i);
-    let arities = form::atoms::body_arities(form, i);
-    let count = form::counts::body_count(form, i);
-    let entered = facts::enter_facts(&atoms, &arities, count, &names, &mut *facts, m, limit);
+    let entered = facts::enter_facts(&atoms, &names, &mut *facts, m, limit);
     disjuncts::enter_disjunct(
         form,
         before,
