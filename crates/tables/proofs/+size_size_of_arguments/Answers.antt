@@ -1,7 +1,8 @@
 -- `tables::size` and `tables::size_of_arguments` meet their contracts. Assumes nothing.
+use mathlib.Core.Path.{ap}
 use Prim.Native.Nat.{◌<◌}
 use native.Mathlib.Omega.{arith}
-use Rattle.tables.specs.Terms.{arity_of, total}
+use Rattle.tables.specs.Terms.{arity_of, total, size_at}
 use Rattle.tables.proofs.Terms.{size_at_is, arguments_of_more, arguments_of_end}
 use Rattle.tables.proofs.+size_size_of_arguments.Goals as goal
 
@@ -22,4 +23,4 @@ size_of_arguments-returns t c =
     let a = c.args in
     let h : a.j < arity_of a.terms.now a.i = omega arith in
     rw (arguments_of_more a.terms.now a.i a.j h)
-    (omega (arith, c.size_of_arguments.ensures, c.size-first.ensures))
+    (omega (arith, c.size_of_arguments.ensures, c.size-first.ensures, ap (size_at a.terms.now) c.from-argument.ensures))
