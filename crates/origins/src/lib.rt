@@ -29,7 +29,7 @@ fn origin_argument(table: &[u16], j: usize, k: usize) -> u16
     requires { (suc j * 10 ≤ length table.now) × (k < 8) }
     ensures { result ≡ get_or (arguments_in (row 10 j table.now)) k 0 }
 {
-    if k < table[j * 10 + 1] as usize {
+    if k < usize::from(table[j * 10 + 1]) {
         return table[j * 10 + 2 + k];
     }
     0
