@@ -28,6 +28,3 @@ loop-v-preserved c =
             (counted_no a.existential a.before c.loop-v.numbers c.loop-v.last c.loop-v.v inv (sym told ∙ w.if-contains.false))
       ],
     )
-
-pub returns : goal.returns
-returns c = λ v h. c.loop-v.invariant.1.given v (omega arith)

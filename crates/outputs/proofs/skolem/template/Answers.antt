@@ -48,9 +48,6 @@ returns c =
     let e : c.loop-v.v ≡ 8 = omega arith in
     c.loop-v.invariant.1 ∙ ap (filled_up a.frontier (value_of a.numbers)) e ∙ filled_up_all a.frontier (value_of a.numbers)
 
-pub set_size-requires : goal.set_size-requires
-set_size-requires c = tt
-
 pub offset_bounds-row-place : goal.offset_bounds-row-place
 offset_bounds-row-place c = let b = below_length c.args.frontier c.loop-v.v in omega (arith, c.loop-v.invariant.2)
 
