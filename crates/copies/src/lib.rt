@@ -22,7 +22,7 @@ fn copy(terms: &[u16], count: usize, i: usize, table: &mut [u16], n: usize) -> u
     row[0] = tables::function(terms, count, i);
     row[1] = arity;
     let mut m = n;
-    for j in 0..arity as usize {
+    for j in 0..usize::from(arity) {
         m = copy(
             terms,
             count,
@@ -49,7 +49,7 @@ fn copy_variable(
     count: usize,
     variables: u8,
     v: u8,
-    i: u16,
+    i: usize,
     numbers: [u16; 8],
     table: &mut [u16],
     n: usize,
@@ -58,9 +58,9 @@ fn copy_variable(
     ensures { HoldsTerms table.new result.count (copied_at (rows 10 count terms.now) count variables v i (rows 10 n table.old)) × (result.numbers ≡ numbered_at variables v numbers result.count) }
 {
     if form_variables::contains(variables, v) {
-        let m = copy(terms, count, i as usize, &mut *table, n);
+        let m = copy(terms, count, i, &mut *table, n);
         let mut next = numbers;
-        next[v as usize] = (m - 1) as u16;
+        next[usize::from(v)] = (m - 1) as u16;
         return Renamed {
             numbers: next,
             count: m,
@@ -88,7 +88,7 @@ pub fn copy_terms(
             count,
             variables,
             v as u8,
-            assignment[v],
+            usize::from(assignment[v]),
             numbers,
             &mut *table,
             n,

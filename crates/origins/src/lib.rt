@@ -29,7 +29,7 @@ fn origin_argument(table: &[u16], j: usize, k: usize) -> u16
     requires { (suc j * 10 ≤ length table.now) × (k < 8) }
     ensures { result ≡ get_or (arguments_in (row 10 j table.now)) k 0 }
 {
-    if k < table[j * 10 + 1] as usize {
+    if k < usize::from(table[j * 10 + 1]) {
         return table[j * 10 + 2 + k];
     }
     0
@@ -101,9 +101,7 @@ fn enter_origin(
     );
     let added = add_constants(&mut *table, n, form_variables::set_size(others));
     let atoms = form::atoms::body(form, i);
-    let arities = form::atoms::body_arities(form, i);
-    let count = form::counts::body_count(form, i);
-    let entered = facts::enter_facts(&atoms, &arities, count, &names, &mut *facts, m, limit);
+    let entered = facts::enter_facts(&atoms, &names, &mut *facts, m, limit);
     disjuncts::enter_disjunct(
         form,
         before,

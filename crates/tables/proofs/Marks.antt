@@ -3,7 +3,7 @@ use mathlib.Core.Path.{◌≡◌, refl, sym, ap, ap₂, ◌∙◌}
 use mathlib.Core.Bool.{Bool, true, false, ◌&&◌, ◌||◌, or_assoc, or-false}
 use mathlib.Core.Logic.{⊎_elim}
 use mathlib.Core.List.{List, [], ◌∷◌, Memᴰ}
-use Prim.Native.Nat.{ℕ, zero, suc, max, ◌+◌, ◌≤◌, ◌<◌}
+use Prim.Native.Nat.{ℕ, zero, suc, max, ◌+◌, ◌*◌, ◌≤◌, ◌<◌}
 use native.Mathlib.Numerals.{add-one}
 use native.Mathlib.Omega.{arith}
 use native.Mathlib.Decide.{dec_lt}
@@ -18,19 +18,6 @@ use Rattle.rows.specs.Making.{most}
 use Rattle.tables.specs.Terms.{function_of, arity_of, argument_of, arguments_of, Ordered, nesting_at}
 use Rattle.tables.specs.Marks.{raised, passes, nests_marked, passed_down}
 use Rattle.tables.proofs.Terms.{arguments_of_more, arguments_of_end, arguments_of_before, nesting_at_is}
-
--- one mark raised, or above the level already
-
-set_again : (xs : List ℕ) (i : ℕ) → set xs i (get_or xs i 0) ≡ xs
-set_again [] i = refl
-set_again (x ∷ xs) zero = refl
-set_again (x ∷ xs) (suc i) = ap (λ (ys : List ℕ). x ∷ ys) (set_again xs i)
-
-pub raised_below : (marks : List ℕ) (i x : ℕ) → get_or marks i 0 < x → set marks i x ≡ set marks i (max (get_or marks i 0) x)
-raised_below marks i x h = let e : x ≡ max (get_or marks i 0) x = omega arith in ap (set marks i) e
-
-pub raised_above : (marks : List ℕ) (i x : ℕ) → x ≤ get_or marks i 0 → marks ≡ set marks i (max (get_or marks i 0) x)
-raised_above marks i x h = let e : get_or marks i 0 ≡ max (get_or marks i 0) x = omega arith in sym (set_again marks i) ∙ ap (set marks i) e
 
 -- the arguments of a term raised one by one
 
@@ -47,6 +34,11 @@ raised_more t i j x marks h = ap (λ (as' : List ℕ). raised as' x marks) (argu
 pub raised_end : (t : List ℕ) (i j x : ℕ) (marks : List ℕ) → arity_of t i ≤ j → raised (drop j (arguments_of t i)) x marks ≡ marks
 unfolding raised
 raised_end t i j x marks h = ap (λ (as' : List ℕ). raised as' x marks) (arguments_of_end t i j h)
+
+-- a term's arguments have marks of their own
+pub marked_arguments : {count : ℕ} {t : List ℕ} → Ordered count t → (marks : List ℕ) → count ≤ length marks → (n : ℕ) → n < count
+    → (suc n * 10 ≤ length t) × (arity_of t n ≤ 8) × ((j : ℕ) → j < arity_of t n → argument_of t n j < length marks)
+marked_arguments o marks m n h = (omega (arith, o.room), o.arity n h, λ j k. omega (arith, o.before n j h k))
 
 -- what passes a depth
 

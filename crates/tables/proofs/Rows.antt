@@ -1,7 +1,7 @@
 -- Laws of rows: a step of each search and of a write, as the loops take them. Assumes nothing.
 use mathlib.Core.Path.{◌≡◌, refl, sym, ap, ◌∙◌}
 use mathlib.Core.Bool.{Bool, true, false, ◌&&◌}
-use mathlib.Core.List.{List, ◌++◌}
+use mathlib.Core.List.{List, [], ◌∷◌, ◌++◌}
 use mathlib.Core.Logic.{◌⊎◌, inl, inr}
 use Prim.Native.Nat.{ℕ, zero, suc, ◌+◌, ◌*◌, ◌≤◌, ◌<◌}
 use native.Mathlib.Numerals.{add-one}
@@ -10,44 +10,27 @@ use lib.Dec.{eqb}
 use lib.ListN.{length, get_or, take, drop, set}
 use lib.Seq.{drop-cons, take-length, paste, paste-suc}
 use borrow.Author.Tests.{eq-eqb, ne_eqb}
+use borrow.Rule.Slice.PartMut.{put_mid}
+use Rattle.std.proofs.lemmas.Slice.{put_mid-paste}
+use Rattle.std.specs.Cmp.Lexicographic.{pointwise}
 use Rattle.laws.proofs.Bools.{case}
 use Rattle.tables.specs.Rows.{begins, seek_row, find_row, written}
 
--- both lists, each from its own place, taken apart at their heads
-begins_apart : (r t : List ℕ) (i j : ℕ) → i < length r → j < length t
-    → begins (drop i r) (drop j t) ≡ eqb (get_or r i 0) (get_or t j 0) && begins (drop (suc i) r) (drop (suc j) t)
+-- a list begins with these numbers, as the library tests it
+pub begins_pointwise : (r t : List ℕ) → pointwise eqb r (take (length r) t) ≡ begins r t
 unfolding begins
-begins_apart r t i j h k = rw (drop-cons r i 0 h, drop-cons t j 0 k) refl
+begins_pointwise [] t = refl
+begins_pointwise (x ∷ r) [] = refl
+begins_pointwise (x ∷ r) (y ∷ t) = ap (λ (b : Bool). eqb x y && b) (begins_pointwise r t)
 
-pub begins_more : (r t : List ℕ) (at i : ℕ) → i < length r → at + length r ≤ length t → get_or t (at + i) 0 ≡ get_or r i 0
-    → begins (drop i r) (drop (at + i) t) ≡ begins (drop (i + 1) r) (drop (at + (i + 1)) t)
-begins_more r t at i h k e =
-    let next : suc (at + i) ≡ at + (i + 1) = omega arith in
-    begins_apart r t i (at + i) h (omega arith)
-    ∙ ap (λ (b : Bool). b && begins (drop (suc i) r) (drop (suc (at + i)) t)) (eq-eqb (get_or r i 0) (get_or t (at + i) 0) (sym e))
-    ∙ ap (λ (n : ℕ). begins (drop (suc i) r) (drop n t)) next
-    ∙ ap (λ (n : ℕ). begins (drop n r) (drop (at + (i + 1)) t)) (sym (add-one i))
-
-pub begins_not : (r t : List ℕ) (at i : ℕ) → i < length r → at + length r ≤ length t → (get_or t (at + i) 0 ≡ get_or r i 0 → ⊥)
-    → begins (drop i r) (drop (at + i) t) ≡ false
-begins_not r t at i h k e =
-    begins_apart r t i (at + i) h (omega arith)
-    ∙ ap (λ (b : Bool). b && begins (drop (suc i) r) (drop (suc (at + i)) t)) (ne_eqb (get_or r i 0) (get_or t (at + i) 0) (λ p. e (sym p)))
-
-pub begins_none : (r t : List ℕ) (i : ℕ) → length r ≤ i → begins (drop i r) t ≡ true
-unfolding begins
-begins_none r t i h = rw (lib.ListN.drop_of_length-le r h) refl
-
--- a write, one number further
-
-pub paste_more : (t : List ℕ) (at : ℕ) (r : List ℕ) (i : ℕ) → at + length r ≤ length t → i < length r
-    → set (paste t at r i) (at + i) (get_or r i 0) ≡ paste t at r (i + 1)
-paste_more t at r i h k = paste-suc t at r i 0 (omega arith) k ∙ ap (λ (n : ℕ). paste t at r n) (sym (add-one i))
-
+-- a row written over a part
 pub paste_written : (t : List ℕ) (at : ℕ) (r : List ℕ) (i : ℕ) → i ≡ length r → paste t at r i ≡ written r at t
 unfolding written
 paste_written t at r i e =
     ap (λ (n : ℕ). paste t at r n) e ∙ ap (λ (x : List ℕ). take at t ++ x ++ drop (at + length r) t) (take-length r)
+
+pub put_written : (t : List ℕ) (at k : ℕ) (r xs : List ℕ) → k ≡ length r → xs ≡ r → put_mid at k t xs ≡ written r at t
+put_written t at k r xs e f = put_mid-paste at k t xs r (length r) f (sym e) refl ∙ paste_written t at r (length r) refl
 
 -- a row that is found is one of the rows in use; one that is not is written behind them
 

@@ -25,16 +25,14 @@ argument-requires t c =
 
 pub copy-m-requires : goal.copy-m-requires
 copy-m-requires t c =
-    let s = c in
-    let l = c in
-    let e = l.loop-j.invariant.0 in
+    let e = c.loop-j.invariant.0 in
     let q = c.argument.ensures in
-    let m : s.args.i ≡ t = s.decreases in
-    let b = copied_arity_le s.args.terms.now s.args.i in
-    let k : l.loop-j.j < copied_arity s.args.terms.now s.args.i = omega arith in
-    let below = s.requires.0.before s.args.i l.loop-j.j s.requires.1 (omega arith) in
-    let room = copied_room s.requires.0 s.args.i s.requires.1 l.loop-j.invariant.3 (room_same l.loop-j.table l.loop-j.invariant.2 s.requires.2.room) k in
-    (omega arith, (s.requires.0, omega arith, rw q (record { kept = l.loop-j.invariant.4; room = room })))
+    let m : c.args.i ≡ t = c.decreases in
+    let b = copied_arity_le c.args.terms.now c.args.i in
+    let k : c.loop-j.j < copied_arity c.args.terms.now c.args.i = omega arith in
+    let below = c.requires.0.before c.args.i c.loop-j.j c.requires.1 (omega arith) in
+    let room = copied_room c.requires.0 c.args.i c.requires.1 c.loop-j.invariant.3 (room_same c.loop-j.table c.loop-j.invariant.2 c.requires.2.room) k in
+    (omega arith, (c.requires.0, omega arith, rw q (record { kept = c.loop-j.invariant.4; room = room })))
 
 pub overflow_sub-row : goal.overflow_sub-row
 overflow_sub-row t c =
@@ -61,13 +59,11 @@ loop-j-preserved t c =
 
 pub append_term-requires : goal.append_term-requires
 append_term-requires t c =
-    let s = c in
-    let l = c in
-    let e = l.loop-j.invariant.0 in
-    let w = l.loop-j.invariant.3.within in
-    let k : l.loop-j.j ≡ copied_arity s.args.terms.now s.args.i = omega arith in
-    let (fits, few) = copied_last s.requires.0 s.args.i s.requires.1 l.loop-j.invariant.3 (room_same l.loop-j.table l.loop-j.invariant.2 s.requires.2.room) k in
-    (l.loop-j.invariant.4, fits, few, copied_length s.requires.0 s.args.i s.requires.1 l.loop-j.invariant.3)
+    let e = c.loop-j.invariant.0 in
+    let w = c.loop-j.invariant.3.within in
+    let k : c.loop-j.j ≡ copied_arity c.args.terms.now c.args.i = omega arith in
+    let (fits, few) = copied_last c.requires.0 c.args.i c.requires.1 c.loop-j.invariant.3 (room_same c.loop-j.table c.loop-j.invariant.2 c.requires.2.room) k in
+    (c.loop-j.invariant.4, fits, few, copied_length c.requires.0 c.args.i c.requires.1 c.loop-j.invariant.3)
 
 pub overflow_add-result : goal.overflow_add-result
 overflow_add-result t c =
@@ -79,11 +75,9 @@ overflow_add-result t c =
 
 pub returns : goal.returns
 returns t c =
-    let s = c in
-    let l = c in
-    let e = l.loop-j.invariant.0 in
-    let w = l.loop-j.invariant.3.within in
-    let k : l.loop-j.j ≡ copied_arity s.args.terms.now s.args.i = omega arith in
-    let (fits, few) = copied_last s.requires.0 s.args.i s.requires.1 l.loop-j.invariant.3 (room_same l.loop-j.table l.loop-j.invariant.2 s.requires.2.room) k in
-    let d = term_appended l.loop-j.invariant.4 fits l.loop-j.row (copied_length s.requires.0 s.args.i s.requires.1 l.loop-j.invariant.3) few c.append_term.ensures in
-    rw (add-one l.loop-j.m) (record { rows = d.0 ∙ copied_all s.requires.0 s.args.i s.requires.1 l.loop-j.invariant.3 k; kept = d.1 })
+    let e = c.loop-j.invariant.0 in
+    let w = c.loop-j.invariant.3.within in
+    let k : c.loop-j.j ≡ copied_arity c.args.terms.now c.args.i = omega arith in
+    let (fits, few) = copied_last c.requires.0 c.args.i c.requires.1 c.loop-j.invariant.3 (room_same c.loop-j.table c.loop-j.invariant.2 c.requires.2.room) k in
+    let d = term_appended c.loop-j.invariant.4 fits c.loop-j.row (copied_length c.requires.0 c.args.i c.requires.1 c.loop-j.invariant.3) few c.append_term.ensures in
+    rw (add-one c.loop-j.m) (record { rows = d.0 ∙ copied_all c.requires.0 c.args.i c.requires.1 c.loop-j.invariant.3 k; kept = d.1 })

@@ -9,32 +9,30 @@ use Rattle.copies.proofs.copy_variable.Goals as goal
 
 pub copy-m-requires : goal.copy-m-requires
 copy-m-requires c =
-    let s = c in
-    let a = s.args in
+    let a = c.args in
     let h = (sym c.contains.ensures ∙ c.if-contains.true) in
-    (s.requires.0, s.requires.2 h, subst (TakesTerms a.table.now a.n) (copied_at_yes (rows 10 a.count a.terms.now) a.count a.variables a.v a.i (rows 10 a.n a.table.now) h) s.requires.3)
+    (c.requires.0, c.requires.2 h, subst (TakesTerms a.table.now a.n) (copied_at_yes (rows 10 a.count a.terms.now) a.count a.variables a.v a.i (rows 10 a.n a.table.now) h) c.requires.3)
 
 pub overflow_sub-next : goal.overflow_sub-next
 overflow_sub-next c =
-    let s = c in
-    let a = s.args in
+    let a = c.args in
     let d = c.copy-m in
-    (copy_number a.count (rows 10 a.count a.terms.now) a.i (rows 10 a.n a.table.now) a.table.now d.new.table d.result (subst (TakesTerms a.table.now a.n) (copied_at_yes (rows 10 a.count a.terms.now) a.count a.variables a.v a.i (rows 10 a.n a.table.now) (sym c.contains.ensures ∙ c.if-contains.true)) s.requires.3).room d.ensures.rows).0
+    (copy_number a.count (rows 10 a.count a.terms.now) a.i (rows 10 a.n a.table.now) a.table.now d.new.table d.result (subst (TakesTerms a.table.now a.n) (copied_at_yes (rows 10 a.count a.terms.now) a.count a.variables a.v a.i (rows 10 a.n a.table.now) (sym c.contains.ensures ∙ c.if-contains.true)) c.requires.3).room d.ensures.rows).0
 
 pub overflow_cast-next : goal.overflow_cast-next
 overflow_cast-next c =
-    let s = c in
-    let a = s.args in
+    let a = c.args in
     let d = c.copy-m in
     let b : (1 ≤ d.result) × (d.result < 65536) =
-    copy_number a.count (rows 10 a.count a.terms.now) a.i (rows 10 a.n a.table.now) a.table.now d.new.table d.result (subst (TakesTerms a.table.now a.n) (copied_at_yes (rows 10 a.count a.terms.now) a.count a.variables a.v a.i (rows 10 a.n a.table.now) (sym c.contains.ensures ∙ c.if-contains.true)) s.requires.3).room d.ensures.rows in
+    copy_number a.count (rows 10 a.count a.terms.now) a.i (rows 10 a.n a.table.now) a.table.now d.new.table d.result (subst (TakesTerms a.table.now a.n) (copied_at_yes (rows 10 a.count a.terms.now) a.count a.variables a.v a.i (rows 10 a.n a.table.now) (sym c.contains.ensures ∙ c.if-contains.true)) c.requires.3).room d.ensures.rows in
     record { fits = omega arith }
 
 pub returns-then-contains : goal.returns-then-contains
 returns-then-contains c =
     let a = c.args in
     let d = c.copy-m in
-    let h = sym c.contains.ensures ∙ c.if-contains.true in (
+    let h = sym c.contains.ensures ∙ c.if-contains.true in
+    rw c.from.ensures (
       record {
         rows = d.ensures.rows ∙ sym (copied_at_yes (rows 10 a.count a.terms.now) a.count a.variables a.v a.i (rows 10 a.n a.table.now) h);
         kept = d.ensures.kept;
@@ -44,12 +42,11 @@ returns-then-contains c =
 
 pub returns : goal.returns
 returns c =
-    let s = c in
-    let a = s.args in
+    let a = c.args in
     let h = sym c.contains.ensures ∙ c.if-contains.false in (
       record {
         rows = sym (copied_at_no (rows 10 a.count a.terms.now) a.count a.variables a.v a.i (rows 10 a.n a.table.now) h);
-        kept = s.requires.3.kept;
+        kept = c.requires.3.kept;
       },
       sym (numbered_at_no a.variables a.v a.numbers a.n h),
     )

@@ -17,22 +17,18 @@ loop-i-init c = let a = c.args in (omega arith, refl, sym (append-nil (rows 10 a
 
 pub append_term-requires : goal.append_term-requires
 append_term-requires c =
-    let s = c in
-    let a = s.args in
-    let l = c in
+    let a = c.args in
     let h = c.loop-i-test.true in
-    let q = l.loop-i.invariant.1 in
-    let (fits, few) = constants_room a.n a.table.now a.k l.loop-i.table (room_same l.loop-i.table q s.requires.room) l.loop-i.m l.loop-i.table l.loop-i.i l.loop-i.invariant.2 h in
-    (l.loop-i.invariant.3, fits, few, refl)
+    let q = c.loop-i.invariant.1 in
+    let (fits, few) = constants_room a.n a.table.now a.k c.loop-i.table (room_same c.loop-i.table q c.requires.room) c.loop-i.m c.loop-i.table c.loop-i.i c.loop-i.invariant.2 h in
+    (c.loop-i.invariant.3, fits, few, refl)
 
 pub overflow_add-m : goal.overflow_add-m
 overflow_add-m c =
-    let s = c in
-    let a = s.args in
-    let l = c in
+    let a = c.args in
     let h = c.loop-i-test.true in
-    let q = l.loop-i.invariant.1 in
-    let b = constants_room a.n a.table.now a.k a.table.now s.requires.room l.loop-i.m l.loop-i.table l.loop-i.i l.loop-i.invariant.2 h in
+    let q = c.loop-i.invariant.1 in
+    let b = constants_room a.n a.table.now a.k a.table.now c.requires.room c.loop-i.m c.loop-i.table c.loop-i.i c.loop-i.invariant.2 h in
     record { fits = omega arith }
 
 pub loop-i-smaller : goal.loop-i-smaller
@@ -40,20 +36,18 @@ loop-i-smaller c = let h = c.loop-i-test.true in omega arith
 
 pub loop-i-preserved : goal.loop-i-preserved
 loop-i-preserved c =
-    let s = c in
-    let a = s.args in
-    let l = c in
+    let a = c.args in
     let h = c.loop-i-test.true in
-    let q = l.loop-i.invariant.1 in
+    let q = c.loop-i.invariant.1 in
     let d = c.append_term in
-    let (fits, few) = constants_room a.n a.table.now a.k l.loop-i.table (room_same l.loop-i.table q s.requires.room) l.loop-i.m l.loop-i.table l.loop-i.i l.loop-i.invariant.2 h in
-    let more = term_appended l.loop-i.invariant.3 fits constant_row refl few d.ensures in (
+    let (fits, few) = constants_room a.n a.table.now a.k c.loop-i.table (room_same c.loop-i.table q c.requires.room) c.loop-i.m c.loop-i.table c.loop-i.i c.loop-i.invariant.2 h in
+    let more = term_appended c.loop-i.invariant.3 fits constant_row refl few d.ensures in (
       omega arith,
       d.auto.terms ∙ q,
-      rw (add-one l.loop-i.m) (more.0
-          ∙ ap (λ (ts : List (List ℕ)). ts ++ (constant_row ∷ [])) l.loop-i.invariant.2
-          ∙ constants_more l.loop-i.i (rows 10 a.n a.table.now)),
-      rw (add-one l.loop-i.m) more.1,
+      rw (add-one c.loop-i.m) (more.0
+          ∙ ap (λ (ts : List (List ℕ)). ts ++ (constant_row ∷ [])) c.loop-i.invariant.2
+          ∙ constants_more c.loop-i.i (rows 10 a.n a.table.now)),
+      rw (add-one c.loop-i.m) more.1,
     )
 
 pub shape_of-table : goal.shape_of-table
@@ -61,7 +55,6 @@ shape_of-table c = c.loop-i.invariant.1
 
 pub returns : goal.returns
 returns c =
-    let l = c in
     let a = c.args in
-    let e : l.loop-i.i ≡ a.k = omega arith in
-    record { rows = l.loop-i.invariant.2 ∙ ap (λ (i : ℕ). rows 10 a.n a.table.now ++ replicate i constant_row) e; kept = l.loop-i.invariant.3 }
+    let e : c.loop-i.i ≡ a.k = omega arith in
+    record { rows = c.loop-i.invariant.2 ∙ ap (λ (i : ℕ). rows 10 a.n a.table.now ++ replicate i constant_row) e; kept = c.loop-i.invariant.3 }

@@ -15,13 +15,12 @@ rank-requires c = (c.requires.0, (sym c.contains.ensures ∙ c.if-contains.true)
 
 pub origin_argument-requires : goal.origin_argument-requires
 origin_argument-requires c =
-    let s = c in
-    let a = s.args in
+    let a = c.args in
     let e = c.rank.ensures in
-    let q = rank_below a.frontier a.v s.requires.0 (sym c.contains.ensures ∙ c.if-contains.true) in
+    let q = rank_below a.frontier a.v c.requires.0 (sym c.contains.ensures ∙ c.if-contains.true) in
     let b = below_length a.frontier a.v in
-    let h : a.v < 8 = s.requires.0 in
-    (s.requires.1, omega arith)
+    let h : a.v < 8 = c.requires.0 in
+    (c.requires.1, omega arith)
 
 pub returns-then-contains : goal.returns-then-contains
 returns-then-contains c =
@@ -34,12 +33,11 @@ rank-requires-then-contains-2 c = (c.requires.0, (sym c.contains-2.ensures ∙ c
 -- at most eight variables are in a set
 below : (c : goal.After-rank-then-contains-2) → c.rank-then-contains-2.result < 8
 below c =
-    let s = c in
-    let a = s.args in
+    let a = c.args in
     let e = c.rank-then-contains-2.ensures in
-    let q = rank_below a.others a.v s.requires.0 (sym c.contains-2.ensures ∙ c.if-contains-2.true) in
+    let q = rank_below a.others a.v c.requires.0 (sym c.contains-2.ensures ∙ c.if-contains-2.true) in
     let b = below_length a.others a.v in
-    let h : a.v < 8 = s.requires.0 in
+    let h : a.v < 8 = c.requires.0 in
     omega arith
 
 pub overflow_cast-result : goal.overflow_cast-result

@@ -17,12 +17,11 @@ origin_number-requires c = (omega arith, c.requires.0, c.requires.1)
 
 pub loop-v-preserved : goal.loop-v-preserved
 loop-v-preserved c =
-    let l = c in
     let a = c.args in
-    let z = l.loop-v.invariant.1 in (
+    let z = c.loop-v.invariant.1 in (
       omega arith,
-      length-set l.loop-v.names l.loop-v.v c.origin_number.result ∙ z,
-      set_below (origin_number a.frontier a.others (arguments_in (row 10 a.j a.table.now)) a.base) l.loop-v.names l.loop-v.v c.origin_number.result (omega arith) c.origin_number.ensures l.loop-v.invariant.2,
+      length-set c.loop-v.names c.loop-v.v c.origin_number.result ∙ z,
+      set_below (origin_number a.frontier a.others (arguments_in (row 10 a.j a.table.now)) a.base) c.loop-v.names c.loop-v.v c.origin_number.result (omega arith) c.origin_number.ensures c.loop-v.invariant.2,
     )
 
 pub returns : goal.returns

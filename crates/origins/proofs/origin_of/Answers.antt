@@ -14,46 +14,41 @@ use Rattle.origins.proofs.origin_of.Goals as goal
 
 pub bounds-table-j : goal.bounds-table-j
 bounds-table-j c =
-    let s = c in
-    let a = s.args in
-    let f = s.requires.1.room.kept.fits in
-    let h : a.j < a.n = s.requires.0.within in
+    let a = c.args in
+    let f = c.requires.1.room.kept.fits in
+    let h : a.j < a.n = c.requires.0.within in
     omega arith
 
 pub returns-then-f-eq0 : goal.returns-then-f-eq0
 returns-then-f-eq0 c =
-    let s = c in
-    let a = s.args in
-    let w = kept_within s.requires.1.kept in
+    let a = c.args in
+    let w = kept_within c.requires.1.kept in
     let l = rows_length 5 a.m a.facts.now in
     record {
       rows =
           cut_twice a.limit (held a.table.now a.n a.facts.now a.m) (omega arith)
           ∙ ap (cut a.limit) (sym (step_none (disjuncts_in a.form.now) a.table.now a.j (held a.table.now a.n a.facts.now a.m) c.if-f-eq0.true));
-      found = s.requires.1.room.kept;
-      kept = s.requires.1.kept;
+      found = c.requires.1.room.kept;
+      kept = c.requires.1.kept;
     }
 
 pub owner_of-owner-requires : goal.owner_of-owner-requires
 owner_of-owner-requires c =
-    let s = c in
-    (s.requires.0.held, s.requires.0.numbered, omega arith, s.requires.0.function)
+    (c.requires.0.held, c.requires.0.numbered, omega arith, c.requires.0.function)
 
 pub enter_origin-requires : goal.enter_origin-requires
 enter_origin-requires c =
-    let s = c in
-    let a = s.args in
+    let a = c.args in
     let o = c.owner_of-owner in (
-      record { entry = record { rule = record { held = s.requires.0.held; within = o.ensures.rule }; numbered = s.requires.0.numbered }; within = o.ensures.disjunct },
-      s.requires.0.within,
-      s.requires.0.few,
-      record { room = subst (λ (x : Rows). TakesTerms a.table.now a.n x.terms) (step_owned s.requires.0.held a.table.now a.j o.result.rule o.result.disjunct (held a.table.now a.n a.facts.now a.m) o.ensures) s.requires.1.room; kept = s.requires.1.kept },
+      record { entry = record { rule = record { held = c.requires.0.held; within = o.ensures.rule }; numbered = c.requires.0.numbered }; within = o.ensures.disjunct },
+      c.requires.0.within,
+      c.requires.0.few,
+      record { room = subst (λ (x : Rows). TakesTerms a.table.now a.n x.terms) (step_owned c.requires.0.held a.table.now a.j o.result.rule o.result.disjunct (held a.table.now a.n a.facts.now a.m) o.ensures) c.requires.1.room; kept = c.requires.1.kept },
     )
 
 pub returns : goal.returns
 returns c =
-    let s = c in
-    let a = s.args in
+    let a = c.args in
     let o = c.owner_of-owner in
     let e = c.enter_origin.ensures in
-    record { rows = e.rows ∙ ap (cut a.limit) (sym (step_owned s.requires.0.held a.table.now a.j o.result.rule o.result.disjunct (held a.table.now a.n a.facts.now a.m) o.ensures)); found = e.found; kept = e.kept }
+    record { rows = e.rows ∙ ap (cut a.limit) (sym (step_owned c.requires.0.held a.table.now a.j o.result.rule o.result.disjunct (held a.table.now a.n a.facts.now a.m) o.ensures)); found = e.found; kept = e.kept }

@@ -8,5 +8,4 @@ use Rattle.origins.proofs.others_set.Goals as goal
 
 pub returns : goal.returns
 returns c =
-    let s = c in
-    ap₂ (λ (x y : ℕ). bit_and x (256 - 1 - y)) c.body_set.ensures c.frontier_set.ensures ∙ others_set (rule_of s.args.form.now s.args.i)
+    ap₂ (λ (x y : ℕ). bit_and x (256 - 1 - y)) c.body_set.ensures c.frontier_set.ensures ∙ others_set (rule_of c.args.form.now c.args.i)

@@ -11,26 +11,20 @@ loop-v-init c = (omega arith, counted_none c.args.existential c.args.before)
 
 pub overflow_add-last : goal.overflow_add-last
 overflow_add-last c =
-    let l = c in
-    let s = l in
-    let few = s.requires in
-    let b = below_length s.args.existential l.loop-v.v in
-    record { fits = omega (arith, l.loop-v.invariant.1.up_to) }
+    let few = c.requires in
+    let b = below_length c.args.existential c.loop-v.v in
+    record { fits = omega (arith, c.loop-v.invariant.1.up_to) }
 
 pub loop-v-preserved : goal.loop-v-preserved
 loop-v-preserved c =
-    let l = c in
-    let a = l.args in
+    let a = c.args in
     let told = c.contains.ensures in
-    let inv = l.loop-v.invariant.1 in (
+    let inv = c.loop-v.invariant.1 in (
       omega arith,
       elim c.if-contains.branch [
-        | goal.then-contains w ↦ subst₂ (λ (xs : List ℕ) (n : ℕ). Counted a.existential a.before xs n (l.loop-v.v + 1)) (sym w.numbers-is) (sym w.last-is)
-            (counted_yes a.existential a.before l.loop-v.numbers l.loop-v.last l.loop-v.v inv (omega arith) (sym told ∙ w.if-contains.true))
-        | goal.else-contains w ↦ subst₂ (λ (xs : List ℕ) (n : ℕ). Counted a.existential a.before xs n (l.loop-v.v + 1)) (sym w.numbers-is) (sym w.last-is)
-            (counted_no a.existential a.before l.loop-v.numbers l.loop-v.last l.loop-v.v inv (sym told ∙ w.if-contains.false))
+        | goal.then-contains w ↦ subst₂ (λ (xs : List ℕ) (n : ℕ). Counted a.existential a.before xs n (c.loop-v.v + 1)) (sym w.numbers-is) (sym w.last-is)
+            (counted_yes a.existential a.before c.loop-v.numbers c.loop-v.last c.loop-v.v inv (omega arith) (sym told ∙ w.if-contains.true))
+        | goal.else-contains w ↦ subst₂ (λ (xs : List ℕ) (n : ℕ). Counted a.existential a.before xs n (c.loop-v.v + 1)) (sym w.numbers-is) (sym w.last-is)
+            (counted_no a.existential a.before c.loop-v.numbers c.loop-v.last c.loop-v.v inv (sym told ∙ w.if-contains.false))
       ],
     )
-
-pub returns : goal.returns
-returns c = λ v h. c.loop-v.invariant.1.given v (omega arith)

@@ -22,37 +22,31 @@ loop-v-init c =
 
 pub bounds-row-place : goal.bounds-row-place
 bounds-row-place c =
-    let l = c in
-    let b = below_length l.args.frontier l.loop-v.v in
-    omega (arith, l.loop-v.invariant.2)
+    let b = below_length c.args.frontier c.loop-v.v in
+    omega (arith, c.loop-v.invariant.2)
 
 pub loop-v-preserved : goal.loop-v-preserved
 loop-v-preserved c =
-    let l = c in
-    let a = l.args in
+    let a = c.args in
     let α : ℕ → ℕ = value_of a.numbers in
     let told = c.contains.ensures in
-    let (h, row, place) = l.loop-v.invariant in (
+    let (h, row, place) = c.loop-v.invariant in (
       omega arith,
       elim c.if-contains.branch [
-        | goal.then-contains w ↦ w.row-is ∙ ap₂ (λ (xs : List ℕ) (p : ℕ). set xs p (α l.loop-v.v)) row place ∙ filled_up_more a.frontier α l.loop-v.v (omega arith) (sym told ∙ w.if-contains.true)
-        | goal.else-contains w ↦ w.row-is ∙ row ∙ filled_up_same a.frontier α l.loop-v.v (sym told ∙ w.if-contains.false)
+        | goal.then-contains w ↦ w.row-is ∙ ap₂ (λ (xs : List ℕ) (p : ℕ). set xs p (α c.loop-v.v)) row place ∙ filled_up_more a.frontier α c.loop-v.v (omega arith) (sym told ∙ w.if-contains.true)
+        | goal.else-contains w ↦ w.row-is ∙ row ∙ filled_up_same a.frontier α c.loop-v.v (sym told ∙ w.if-contains.false)
       ],
       elim c.if-contains.branch [
-        | goal.then-contains w ↦ omega (arith, w.place-is, place, below_one a.frontier l.loop-v.v (sym told ∙ w.if-contains.true))
-        | goal.else-contains w ↦ omega (arith, w.place-is, place, below_same a.frontier l.loop-v.v (sym told ∙ w.if-contains.false))
+        | goal.then-contains w ↦ omega (arith, w.place-is, place, below_one a.frontier c.loop-v.v (sym told ∙ w.if-contains.true))
+        | goal.else-contains w ↦ omega (arith, w.place-is, place, below_same a.frontier c.loop-v.v (sym told ∙ w.if-contains.false))
       ],
     )
 
 pub returns : goal.returns
 returns c =
-    let l = c in
     let a = c.args in
-    let e : l.loop-v.v ≡ 8 = omega arith in
-    l.loop-v.invariant.1 ∙ ap (filled_up a.frontier (value_of a.numbers)) e ∙ filled_up_all a.frontier (value_of a.numbers)
-
-pub set_size-requires : goal.set_size-requires
-set_size-requires c = tt
+    let e : c.loop-v.v ≡ 8 = omega arith in
+    c.loop-v.invariant.1 ∙ ap (filled_up a.frontier (value_of a.numbers)) e ∙ filled_up_all a.frontier (value_of a.numbers)
 
 pub offset_bounds-row-place : goal.offset_bounds-row-place
 offset_bounds-row-place c = let b = below_length c.args.frontier c.loop-v.v in omega (arith, c.loop-v.invariant.2)
