@@ -12,20 +12,6 @@ use std::io::Print;
 // Room for the index of a few facts.
 const INDEX_ROOM: usize = 3120;
 
-// The last digit of a number.
-fn digit(x: u16) -> u8 {
-    b'0' + (x % 10) as u8
-}
-
-fn print_assignment(rt: &HostRuntime, assignment: [u16; 8]) -> io::Result<()> {
-    let mut line = [b' '; 16];
-    for i in 0..8 {
-        line[2 * i] = digit(assignment[i]);
-    }
-    line[15] = b'\n';
-    rt.write_all(&line)
-}
-
 fn print_triggers(
     rt: &HostRuntime,
     body: Atoms,
@@ -45,14 +31,15 @@ fn print_triggers(
     };
     let mut walk = Walk::begin(plan, over, facts, &index);
     while let Some(trigger) = walk.next(plan, over, facts, &index) {
-        print_assignment(rt, trigger)?;
+        let [a, b, c, d, e, f, g, h] = trigger;
+        println!(rt; "{a} {b} {c} {d} {e} {f} {g} {h}")?;
     }
     Ok(())
 }
 
 // One atom with a repeated variable: P(x,x) over P(0,0), P(0,1), P(1,1), P(2,0).
 fn repeated_variable(rt: &HostRuntime) -> io::Result<()> {
-    rt.write_all(b"P(x,x)\n")?;
+    println!(rt; "P(x,x)")?;
     let body = Atoms {
         rows: [[0, 0, 0, 0, 0], [0; 5], [0; 5], [0; 5]],
         arities: [2, 0, 0, 0],
@@ -64,7 +51,7 @@ fn repeated_variable(rt: &HostRuntime) -> io::Result<()> {
 
 // Two atoms that share a variable: R(x,y), R(y,z) over a path with a loop at its end.
 fn shared_variable(rt: &HostRuntime) -> io::Result<()> {
-    rt.write_all(b"R(x,y), R(y,z)\n")?;
+    println!(rt; "R(x,y), R(y,z)")?;
     let body = Atoms {
         rows: [[1, 0, 1, 0, 0], [1, 1, 2, 0, 0], [0; 5], [0; 5]],
         arities: [2, 2, 0, 0],
@@ -78,7 +65,7 @@ fn shared_variable(rt: &HostRuntime) -> io::Result<()> {
 
 // The same with the variables 5 and 2, and a variable that the body lacks between them.
 fn other_variables(rt: &HostRuntime) -> io::Result<()> {
-    rt.write_all(b"R(v5,v2), S(v2)\n")?;
+    println!(rt; "R(v5,v2), S(v2)")?;
     let body = Atoms {
         rows: [[1, 5, 2, 0, 0], [2, 2, 0, 0, 0], [0; 5], [0; 5]],
         arities: [2, 1, 0, 0],
@@ -92,14 +79,14 @@ fn other_variables(rt: &HostRuntime) -> io::Result<()> {
 
 // Four atoms over one predicate: every choice of two facts.
 fn four_atoms(rt: &HostRuntime) -> io::Result<()> {
-    rt.write_all(b"T(x), T(y), T(z), T(w)\n")?;
+    println!(rt; "T(x), T(y), T(z), T(w)")?;
     let body = Atoms {
         rows: [
-        [3, 0, 0, 0, 0],
-        [3, 1, 0, 0, 0],
-        [3, 2, 0, 0, 0],
-        [3, 3, 0, 0, 0],
-    ],
+            [3, 0, 0, 0, 0],
+            [3, 1, 0, 0, 0],
+            [3, 2, 0, 0, 0],
+            [3, 3, 0, 0, 0],
+        ],
         arities: [1, 1, 1, 1],
         count: 4,
     };
@@ -109,7 +96,7 @@ fn four_atoms(rt: &HostRuntime) -> io::Result<()> {
 
 // Four arguments, the first and the last the same variable, and an atom that refuses one of the facts.
 fn four_arguments(rt: &HostRuntime) -> io::Result<()> {
-    rt.write_all(b"V(x,y,z,x), S(y)\n")?;
+    println!(rt; "V(x,y,z,x), S(y)")?;
     let body = Atoms {
         rows: [[5, 0, 1, 2, 0], [2, 1, 0, 0, 0], [0; 5], [0; 5]],
         arities: [4, 1, 0, 0],
@@ -123,7 +110,7 @@ fn four_arguments(rt: &HostRuntime) -> io::Result<()> {
 
 // A predicate that no fact has.
 fn no_trigger(rt: &HostRuntime) -> io::Result<()> {
-    rt.write_all(b"S(x), A(x)\n")?;
+    println!(rt; "S(x), A(x)")?;
     let body = Atoms {
         rows: [[2, 0, 0, 0, 0], [6, 0, 0, 0, 0], [0; 5], [0; 5]],
         arities: [1, 1, 0, 0],
