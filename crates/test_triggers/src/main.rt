@@ -1,137 +1,123 @@
 // Lists the triggers of small bodies over small sets of facts: a line for each, with the term number of each of the eight variables.
 #![tactic(auto)]
 
+ghost use Rattle.triggers.specs.Search.{as_body};
 ghost use Rattle.test_triggers.specs.Cases.{Case};
 
-use new_triggers::Extent;
+use form::atoms::Atoms;
+use new_triggers::{Extent, Walk};
 use std::io;
 use std::io::Print;
 
 // Room for the index of a few facts.
 const INDEX_ROOM: usize = 3120;
 
-// The last digit of a number.
-fn digit(x: u16) -> u8 {
-    b'0' + (x % 10) as u8
-}
-
-fn print_assignment(rt: &HostRuntime, assignment: [u16; 8]) -> io::Result<()> {
-    let mut line = [b' '; 16];
-    for i in 0..8 {
-        line[2 * i] = digit(assignment[i]);
-    }
-    line[15] = b'\n';
-    rt.write_all(&line)
-}
-
 fn print_triggers(
     rt: &HostRuntime,
-    body: [[u16; 5]; 4],
-    arities: [usize; 4],
-    atoms: usize,
+    body: Atoms,
     facts: &[u16],
     count: usize,
     terms: u16,
 ) -> io::Result<()>
-    requires { Case (record { atoms = body; arities = arities; count = atoms }) facts.now count terms }
+    requires { Case (as_body body) facts.now count terms }
 {
     let mut index = [0u16; INDEX_ROOM];
     fact_index::extend(facts, 0, count, &mut index);
-    let plan = cursor::plan_of_all(body, arities, atoms);
+    let plan = cursor::plan_of_all(body);
     let over = Extent {
         facts: count,
         old: 0,
         terms,
     };
-    let mut triggers = [[0u16; 8]; 4];
-    let mut conflicts = [[0u8; 8]; 4];
-    let mut live = [false; 4];
-    new_triggers::begin(
-        body,
-        plan,
-        over,
-        &mut triggers,
-        &mut conflicts,
-        &mut live,
-        facts,
-        &index,
-    );
-    loop {
-        let step = new_triggers::next(
-            body,
-            plan,
-            over,
-            &mut triggers,
-            &mut conflicts,
-            &mut live,
-            facts,
-            &index,
-        );
-        if !step.found {
-            return Ok(());
-        }
-        let trigger = step.trigger;
-        print_assignment(rt, trigger)?;
+    let mut walk = Walk::begin(plan, over, facts, &index);
+    while let Some(trigger) = walk.next(plan, over, facts, &index) {
+        let [a, b, c, d, e, f, g, h] = trigger;
+        println!(rt; "{a} {b} {c} {d} {e} {f} {g} {h}")?;
     }
+    Ok(())
 }
 
 // One atom with a repeated variable: P(x,x) over P(0,0), P(0,1), P(1,1), P(2,0).
 fn repeated_variable(rt: &HostRuntime) -> io::Result<()> {
-    rt.write_all(b"P(x,x)\n")?;
-    let body = [[0, 0, 0, 0, 0], [0; 5], [0; 5], [0; 5]];
+    println!(rt; "P(x,x)")?;
+    let body = Atoms {
+        rows: [[0, 0, 0, 0, 0], [0; 5], [0; 5], [0; 5]],
+        arities: [2, 0, 0, 0],
+        count: 1,
+    };
     let facts = [0, 0, 0, 0, 0, 0, 0, 1, 0, 0, 0, 1, 1, 0, 0, 0, 2, 0, 0, 0];
-    print_triggers(rt, body, [2, 0, 0, 0], 1, &facts, 4, 3)
+    print_triggers(rt, body, &facts, 4, 3)
 }
 
 // Two atoms that share a variable: R(x,y), R(y,z) over a path with a loop at its end.
 fn shared_variable(rt: &HostRuntime) -> io::Result<()> {
-    rt.write_all(b"R(x,y), R(y,z)\n")?;
-    let body = [[1, 0, 1, 0, 0], [1, 1, 2, 0, 0], [0; 5], [0; 5]];
+    println!(rt; "R(x,y), R(y,z)")?;
+    let body = Atoms {
+        rows: [[1, 0, 1, 0, 0], [1, 1, 2, 0, 0], [0; 5], [0; 5]],
+        arities: [2, 2, 0, 0],
+        count: 2,
+    };
     let facts = [
         0, 5, 0, 0, 0, 1, 2, 3, 0, 0, 1, 0, 1, 0, 0, 1, 1, 2, 0, 0, 1, 3, 3, 0, 0,
     ];
-    print_triggers(rt, body, [2, 2, 0, 0], 2, &facts, 5, 6)
+    print_triggers(rt, body, &facts, 5, 6)
 }
 
 // The same with the variables 5 and 2, and a variable that the body lacks between them.
 fn other_variables(rt: &HostRuntime) -> io::Result<()> {
-    rt.write_all(b"R(v5,v2), S(v2)\n")?;
-    let body = [[1, 5, 2, 0, 0], [2, 2, 0, 0, 0], [0; 5], [0; 5]];
+    println!(rt; "R(v5,v2), S(v2)")?;
+    let body = Atoms {
+        rows: [[1, 5, 2, 0, 0], [2, 2, 0, 0, 0], [0; 5], [0; 5]],
+        arities: [2, 1, 0, 0],
+        count: 2,
+    };
     let facts = [
         2, 1, 0, 0, 0, 1, 4, 1, 0, 0, 1, 0, 1, 0, 0, 2, 3, 0, 0, 0, 1, 2, 2, 0, 0, 1, 2, 3, 0, 0,
     ];
-    print_triggers(rt, body, [2, 1, 0, 0], 2, &facts, 6, 5)
+    print_triggers(rt, body, &facts, 6, 5)
 }
 
 // Four atoms over one predicate: every choice of two facts.
 fn four_atoms(rt: &HostRuntime) -> io::Result<()> {
-    rt.write_all(b"T(x), T(y), T(z), T(w)\n")?;
-    let body = [
-        [3, 0, 0, 0, 0],
-        [3, 1, 0, 0, 0],
-        [3, 2, 0, 0, 0],
-        [3, 3, 0, 0, 0],
-    ];
+    println!(rt; "T(x), T(y), T(z), T(w)")?;
+    let body = Atoms {
+        rows: [
+            [3, 0, 0, 0, 0],
+            [3, 1, 0, 0, 0],
+            [3, 2, 0, 0, 0],
+            [3, 3, 0, 0, 0],
+        ],
+        arities: [1, 1, 1, 1],
+        count: 4,
+    };
     let facts = [3, 7, 0, 0, 0, 4, 0, 0, 0, 0, 3, 4, 0, 0, 0];
-    print_triggers(rt, body, [1, 1, 1, 1], 4, &facts, 3, 8)
+    print_triggers(rt, body, &facts, 3, 8)
 }
 
 // Four arguments, the first and the last the same variable, and an atom that refuses one of the facts.
 fn four_arguments(rt: &HostRuntime) -> io::Result<()> {
-    rt.write_all(b"V(x,y,z,x), S(y)\n")?;
-    let body = [[5, 0, 1, 2, 0], [2, 1, 0, 0, 0], [0; 5], [0; 5]];
+    println!(rt; "V(x,y,z,x), S(y)")?;
+    let body = Atoms {
+        rows: [[5, 0, 1, 2, 0], [2, 1, 0, 0, 0], [0; 5], [0; 5]],
+        arities: [4, 1, 0, 0],
+        count: 2,
+    };
     let facts = [
         5, 1, 2, 3, 1, 5, 1, 2, 3, 2, 5, 2, 4, 0, 2, 5, 2, 2, 0, 2, 2, 2, 0, 0, 0,
     ];
-    print_triggers(rt, body, [4, 1, 0, 0], 2, &facts, 5, 5)
+    print_triggers(rt, body, &facts, 5, 5)
 }
 
 // A predicate that no fact has.
 fn no_trigger(rt: &HostRuntime) -> io::Result<()> {
-    rt.write_all(b"S(x), A(x)\n")?;
-    let body = [[2, 0, 0, 0, 0], [6, 0, 0, 0, 0], [0; 5], [0; 5]];
+    println!(rt; "S(x), A(x)")?;
+    let body = Atoms {
+        rows: [[2, 0, 0, 0, 0], [6, 0, 0, 0, 0], [0; 5], [0; 5]],
+        arities: [1, 1, 0, 0],
+        count: 2,
+    };
     let facts = [2, 0, 0, 0, 0, 2, 1, 0, 0, 0];
-    print_triggers(rt, body, [1, 1, 0, 0], 2, &facts, 2, 2)
+    print_triggers(rt, body, &facts, 2, 2)
 }
 
 fn main(rt: HostRuntime) -> io::Result<()> {
