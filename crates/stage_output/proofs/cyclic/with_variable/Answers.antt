@@ -16,10 +16,10 @@ returns-then-is_some c =
     record {
       first =
           elim c.then-is_some.branch [
-            then-is_some-via-then-is_some w ↦ first_old g a.before.cyclic (row a.function) (sym c.is_some.ensures ∙ w.if-is_some.true)
-          | then-is_some-via-else-is_some+then-function-eq0 w ↦ first_without g a.before.cyclic a.function a.template w.if-function-eq0.true
-          | then-is_some-via-else-is_some+else-function-eq0+then-function-before w ↦
-              c.requires.unchanging ∙ ap (λ (f : ℕ). first_cyclic g (option_to_list a.before.cyclic) (row f)) (sym w.if-function-before.true)
+            | then-is_some-via-then-is_some w ↦ first_old g a.before.cyclic (row a.function) (sym c.is_some.ensures ∙ w.if-is_some.true)
+            | then-is_some-via-else-is_some+then-function-eq0 w ↦ first_without g a.before.cyclic a.function a.template w.if-function-eq0.true
+            | then-is_some-via-else-is_some+else-function-eq0+then-function-before w ↦
+                c.requires.unchanging ∙ ap (λ (f : ℕ). first_cyclic g (option_to_list a.before.cyclic) (row f)) (sym w.if-function-before.true)
           ];
       unchanging = c.requires.unchanging;
     }
