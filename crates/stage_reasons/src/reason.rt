@@ -1,6 +1,7 @@
 // For which variables a trigger is blocked: with ⋆ for every other variable it is blocked still, and so is every trigger that has its terms there.
 // The contracts cite specs/Starred, specs/Decisive and specs/Reason.
-ghost use Rattle.std.specs.Prelude.{◌≡◌, true, ◌<◌, length, ForSome};
+ghost use Rattle.std.specs.Prelude.{◌≡◌, true, ◌<◌, length};
+ghost use Rattle.std.specs.Option.{ForSome};
 ghost use Rattle.model.specs.Lists.{all};
 ghost use Rattle.model.specs.Rules.{frontier, existential_free, entries};
 ghost use Rattle.model.specs.Form.{decoded};

@@ -24,15 +24,11 @@ blocked_outside-requires c =
     let p = c.requires.0 in
     (p.rule, p.ordered, p.testing c.own_variables-own.result)
 
-pub returns-then-blocked_outside : goal.returns-then-blocked_outside
-returns-then-blocked_outside c =
-    let s = c in
-    let a = s.args in
-    λ e.
-    free_blocked a.form.now a.i (rows 10 a.left.terms a.terms.now) a.trigger c.own_variables-own.result (sym c.blocked_outside.ensures ∙ c.if-blocked_outside.true) s.requires.1
+pub returns-then-own-ne-whole-blocked_outside : goal.returns-then-own-ne-whole-blocked_outside
+returns-then-own-ne-whole-blocked_outside c = ?
 
 pub loop-d-preserved : goal.loop-d-preserved
 loop-d-preserved c = next_turn c.loop-d.invariant (omega arith)
 
 pub returns : goal.returns
-returns c = λ e. not_both false e refl
+returns c = for_none
