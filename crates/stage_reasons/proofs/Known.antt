@@ -6,13 +6,12 @@ use Rattle.std.specs.Bool.{then_some}
 use Rattle.std.specs.Option.{ForSome}
 use Rattle.std.proofs.lemmas.Option.{none-some, same_Some}
 
-module _ {A : Type 0} {P : A → Type 0} where
-  pub for_some : (x : A) → P x → ForSome (Some x) P
-  for_some x p y e = subst P (same_Some x y e) p
+pub for_some : {A : Type 0} (P : A → Type 0) (x : A) → P x → ForSome (Some x) P
+for_some P x p y e = subst P (same_Some x y e) p
 
-  pub for_none : ForSome None P
-  for_none y e = absurd (none-some y e)
+pub for_none : {A : Type 0} (P : A → Type 0) → ForSome None P
+for_none P y e = absurd (none-some y e)
 
-  pub for_then_some : (b : Bool) (x : A) → (b ≡ true → P x) → ForSome (then_some b x) P
-  for_then_some true x h = for_some x (h refl)
-  for_then_some false x h = for_none
+pub for_then_some : {A : Type 0} (P : A → Type 0) (b : Bool) (x : A) → (b ≡ true → P x) → ForSome (then_some b x) P
+for_then_some P true x h = for_some P x (h refl)
+for_then_some P false x h = for_none P

@@ -18,5 +18,5 @@ pub returns : goal.returns
 returns c =
     let a = c.args in
     rw (c.then_some.ensures)
-    (for_then_some c.blocked_outside.result a.whole
+    (for_then_some _ c.blocked_outside.result a.whole
     (λ e. frontier_blocked a.form.now a.i (rows 10 a.left.terms a.terms.now) a.trigger a.whole (sym c.blocked_outside.ensures ∙ e) c.requires.frontier_is))
