@@ -18,7 +18,9 @@ use Rattle.laws_triggers.specs.Next.{triggers_from}
 use Rattle.new_triggers.specs.Unhandled.{unhandled_from}
 use Rattle.laws_triggers.proofs.Encode.{triggers_are}
 use Rattle.new_triggers.proofs.Unhandled.{unhandled_kept}
-use Rattle.form.specs.Places.{arities_of, rules_of, rule_of, atom_rows, atom_arities}
+use Rattle.form.specs.Places.{arities_of, rules_of, rule_of, atoms_of}
+use Rattle.form.specs.declared.atoms.Atoms.{Atoms}
+use Rattle.triggers.specs.Search.{as_body}
 use Rattle.form_variables.specs.Sets.{set_of}
 use Rattle.form.proofs.Places.{rule_well_formed}
 use Rattle.variable_order.proofs.Bodies.{body_of, encodes}
@@ -85,12 +87,11 @@ module _ (form terms : List ℕ) (n : ℕ) (facts : List ℕ) (m old depth : ℕ
       go (inl b) = not_blockable (tables terms n facts m) r b
       go (inr b) = idle_not_large (not-false (idle r facts m old) b)
 
-  -- a body as it comes out of the form, number by number
-  module _ (atoms : List (List ℕ)) (arities : List ℕ) (count set : ℕ) (p : atoms ≡ atom_rows r.body) (q : arities ≡ atom_arities r.body) (c : count ≡ length r.body)
-      (e : set ≡ set_of (universal r)) where
-    pub given_large : blockable r ≡ true → any (large terms set) (unhandled_from (record { atoms = atoms; arities = arities; count = count }) facts m old n (replicate 8 0))
+  -- the body as it comes out of the form
+  module _ (body : Atoms) (set : ℕ) (p : body ≡ atoms_of r.body) (e : set ≡ set_of (universal r)) where
+    pub given_large : blockable r ≡ true → any (large terms set) (unhandled_from (as_body body) facts m old n (replicate 8 0))
         ≡ any (large_over (tables terms n facts m)) (triggers_at r (length (tables terms n facts m).terms) (tables terms n facts m).facts)
     given_large b =
-        ap (λ (x : Body). any (large terms set) (unhandled_from x facts m old n (replicate 8 0))) (is_body form terms n facts m h i l atoms arities count set p q c e)
+        ap (λ (x : Body). any (large terms set) (unhandled_from x facts m old n (replicate 8 0))) (is_body form terms n facts m h i l body p)
         ∙ ap (λ (k : ℕ). any (large terms k) (unhandled_from (body_of r.body) facts m old n (replicate 8 0))) e
         ∙ unhandled_large b

@@ -23,7 +23,9 @@ use Rattle.laws_triggers.specs.Next.{triggers_from}
 use Rattle.new_triggers.specs.Unhandled.{Apart}
 use Rattle.laws_triggers.proofs.Encode.{triggers_are}
 use Rattle.new_triggers.proofs.Apart.{apart}
-use Rattle.form.specs.Places.{Held, arities_of, rules_of, rule_of, atom_rows, atom_arities}
+use Rattle.form.specs.Places.{Held, arities_of, rules_of, rule_of, atoms_of}
+use Rattle.form.specs.declared.atoms.Atoms.{Atoms}
+use Rattle.triggers.specs.Search.{as_body}
 use Rattle.form_variables.specs.Sets.{set_of}
 use Rattle.form_variables.proofs.Elements.{universal_elements}
 use Rattle.form.proofs.Places.{arity_range, rule_well_formed}
@@ -108,16 +110,15 @@ module _ (form terms : List ℕ) (n : ℕ) (facts : List ℕ) (m : ℕ) (h : Tab
         ∙ any_agree (λ (ms : List ℕ). large terms (set_of (universal r)) (spread r ms)) (large_over (tables terms n facts m)) (triggers_at r n (rows 5 m facts)) (λ ms k. large_is r k)
         ∙ ap (λ (c : ℕ). any (large_over (tables terms n facts m)) (triggers_at r c (rows 5 m facts))) (sym (rows_length 10 n terms))
 
-    -- a body as it comes out of the form, number by number
-    module _ (atoms : List (List ℕ)) (arities : List ℕ) (count set : ℕ) (p : atoms ≡ atom_rows r.body) (q : arities ≡ atom_arities r.body) (c : count ≡ length r.body)
-        (e : set ≡ set_of (universal r)) where
-      pub is_body : record { atoms = atoms; arities = arities; count = count } ≡ body_of r.body
-      is_body = λ j. record { atoms = p j; arities = q j; count = c j }
+    -- the body as it comes out of the form
+    module _ (body : Atoms) (p : body ≡ atoms_of r.body) where
+      pub is_body : as_body body ≡ body_of r.body
+      is_body = ap as_body p
 
-      pub given_searchable : Searchable (record { atoms = atoms; arities = arities; count = count }) facts m n
+      pub given_searchable : Searchable (as_body body) facts m n
       given_searchable = subst (λ (b : Body). Searchable b facts m n) (sym is_body) body_searchable
 
-      pub given_apart : Distinct (tables terms n facts m).facts → (old : ℕ) → Apart (record { atoms = atoms; arities = arities; count = count }) facts m old
+      pub given_apart : Distinct (tables terms n facts m).facts → (old : ℕ) → Apart (as_body body) facts m old
       given_apart once old = subst (λ (b : Body). Apart b facts m old) (sym is_body) (body_apart once old)
 
 -- a rule has a large trigger, or not

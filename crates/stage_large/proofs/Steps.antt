@@ -4,10 +4,11 @@ use mathlib.Core.Path.{◌≡◌, refl, sym, ap, ◌∙◌, subst}
 use mathlib.Core.Bool.{Bool, true, false, ◌||◌}
 use mathlib.Core.Logic.{◌⊎◌, inl, inr}
 use mathlib.Core.List.Memᴰ
-use mathlib.Core.List.{List, [], ◌∷◌, Memᴰ}
+use mathlib.Core.List.{List, [], ◌∷◌, append-nil, Memᴰ}
 use Prim.Native.Nat.{ℕ, ◌≤◌, ◌<◌}
 use native.Mathlib.Omega.{arith}
 use lib.ListN.{get_or}
+use Rattle.std.specs.Prelude.{Option, None, Some}
 use Rattle.model.specs.Lists.{any}
 use Rattle.laws.proofs.Bools.{or_left}
 use Rattle.laws.proofs.Lists.{false_any, any_append}
@@ -21,6 +22,7 @@ use Rattle.new_triggers.specs.declared.Extent.{Extent}
 use Rattle.new_triggers.specs.Unhandled.{unhandled, unhandled_from}
 use Rattle.new_triggers.specs.Walk.{Cursor, Walked}
 use Rattle.new_triggers.specs.Steps.{NextNew, Further}
+use Rattle.new_triggers.proofs.Comes.{passed_comes}
 
 -- an assignment over the terms that agrees with a trigger at the variables of its reason fails the test
 pub record Settles (p : List ℕ → Bool) (terms : ℕ) (g : Told) : Type 0 where
@@ -40,7 +42,7 @@ pub seeking_begins : {b : Body} {near : List ℕ} {over : Extent} {facts start :
 seeking_begins {start = start} p w = record { given = []; start = start; walked = w; settled = λ g m. absurd (Memᴰ.not-nil m); decides = refl }
 
 module _ {b : Body} {near : List ℕ} {over : Extent} {facts : List ℕ} {p : List ℕ → Bool} {all : Bool} {c : Cursor} (s : Seeking b near over facts p all c)
-    (some : 1 ≤ over.terms) {found : Bool} {xs : List ℕ} (n : NextNew b facts over.facts over.old over.terms s.given s.start found xs) where
+    (some : 1 ≤ over.terms) where
   abbrev from : List ℕ → List (List ℕ)
   from ys = unhandled_from b facts over.facts over.old over.terms ys
 
@@ -52,35 +54,33 @@ module _ {b : Body} {near : List ℕ} {over : Extent} {facts : List ℕ} {p : Li
       let below = (choices_within (domains b over.terms) q).1 v (omega arith) in
       omega (arith, domains_at b over.terms v h, domain_most b over.terms v some)
 
-  passed_fail : ((zs : List ℕ) → Memᴰ zs n.passed → Memᴰ zs (from s.start)) → any p n.passed ≡ false
-  passed_fail there =
-      false_any p n.passed (λ zs m. let k = n.covered zs m in (s.settled k.by k.among).fails zs (within (there zs m)) k.same)
+  passed_fail : {r : Option (List ℕ)} (n : NextNew b facts over.facts over.old over.terms s.given s.start r) → any p n.passed ≡ false
+  passed_fail n =
+      false_any p n.passed (λ zs m. let k = n.covered zs m in (s.settled k.by k.among).fails zs (within (passed_comes n zs m)) k.same)
 
-  pub seeking_none : found ≡ false → all ≡ false
-  seeking_none f = s.decides ∙ ap (any p) (n.none f) ∙ passed_fail (λ zs m. subst (Memᴰ zs) (sym (n.none f)) m)
+  pub seeking_none : NextNew b facts over.facts over.old over.terms s.given s.start None → all ≡ false
+  seeking_none n = s.decides ∙ ap (any p) (n.rest ∙ append-nil n.passed) ∙ passed_fail n
 
-  reaches : found ≡ true → all ≡ p xs || any p (from (after xs))
-  unfolding any
-  reaches f =
-      let rest = xs ∷ from (after xs) in
-      s.decides
-      ∙ ap (any p) (n.first f)
-      ∙ any_append p n.passed rest
-      ∙ ap (λ (q : Bool). q || any p rest) (passed_fail (λ zs m. subst (Memᴰ zs) (sym (n.first f)) (Memᴰ.append_left rest m)))
+  module _ {xs : List ℕ} (n : NextNew b facts over.facts over.old over.terms s.given s.start (Some xs)) where
+    reaches : all ≡ p xs || any p (from (after xs))
+    unfolding any
+    reaches =
+        let rest = xs ∷ from (after xs) in
+        s.decides ∙ ap (any p) n.rest ∙ any_append p n.passed rest ∙ ap (λ (q : Bool). q || any p rest) (passed_fail n)
 
-  pub seeking_passes : found ≡ true → p xs ≡ true → all ≡ true
-  seeking_passes f e = reaches f ∙ or_left (p xs) (any p (from (after xs))) e
+    pub seeking_passes : p xs ≡ true → all ≡ true
+    seeking_passes e = reaches ∙ or_left (p xs) (any p (from (after xs))) e
 
-  pub seeking_fails : found ≡ true → (why : ℕ) → Settles p over.terms (told xs why) → {c' : Cursor} → Further b near over facts xs why c c' → Seeking b near over facts p all c'
-  seeking_fails f why settles further =
-      record {
-        given = told xs why ∷ s.given;
-        start = after xs;
-        walked = further.onward s.given s.start s.walked;
-        settled = λ g m. go (Memᴰ.cases_cons m);
-        decides = reaches f ∙ ap (λ (q : Bool). q || any p (from (after xs))) (settles.fails xs (λ v h. n.within f v) (λ v h e. refl));
-      }
-    where
-      go : {g : Told} → (g ≡ told xs why) ⊎ Memᴰ g s.given → Settles p over.terms g
-      go (inl e) = subst (Settles p over.terms) (sym e) settles
-      go {g} (inr m) = s.settled g m
+    pub seeking_fails : (why : ℕ) → Settles p over.terms (told xs why) → {c' : Cursor} → Further b near over facts xs why c c' → Seeking b near over facts p all c'
+    seeking_fails why settles further =
+        record {
+          given = told xs why ∷ s.given;
+          start = after xs;
+          walked = further.onward s.given s.start s.walked;
+          settled = λ g m. go (Memᴰ.cases_cons m);
+          decides = reaches ∙ ap (λ (q : Bool). q || any p (from (after xs))) (settles.fails xs (λ v h. n.trigger.1 v) (λ v h e. refl));
+        }
+      where
+        go : {g : Told} → (g ≡ told xs why) ⊎ Memᴰ g s.given → Settles p over.terms g
+        go (inl e) = subst (Settles p over.terms) (sym e) settles
+        go {g} (inr m) = s.settled g m

@@ -10,8 +10,10 @@ use lib.Dec.{ltb}
 use lib.ListN.{length, get_or, set}
 use lib.Seq.{get_or-set_other}
 use borrow.Author.Tests.{eq-eqb, ne_eqb}
+use Rattle.std.specs.Prelude.{Option, None, Some, IsSome, IsNone, option_to_list}
+use Rattle.std.specs.Bool.{then_some}
 use Rattle.model.specs.Lists.{any, collect, numbers_from}
-use Rattle.laws.proofs.Bools.{case}
+use Rattle.laws.proofs.Bools.{case, not_both}
 use Rattle.laws.proofs.Lists.{collect_append}
 use Rattle.laws.proofs.Places.{numbers_from_more}
 use Rattle.tables.specs.Rows.{rows}
@@ -23,9 +25,8 @@ use Rattle.tables.proofs.Tables.{rows_length}
 use Rattle.rows.specs.Copies.{arguments_in}
 use Rattle.tables.proofs.Cells.{numbers_from_take}
 use Rattle.rows.specs.Making.{Ground as Told, most, nesting_in, cyclic_row, first_cyclic}
-use Rattle.stage_output.specs.Cyclic.{Arguments, ground_in, Standable, row_with, rows_with, cyclic_of, Unchanging}
+use Rattle.stage_output.specs.Cyclic.{Arguments, ground_in, Standable, row_with, rows_with, Unchanging}
 use Rattle.stage_output.proofs.Flat.{nesting_in_is}
-use Rattle.stage_output.specs.declared.cyclic.Cyclic.{Cyclic}
 use Rattle.stage_output.specs.declared.cyclic.Ground.{Ground}
 
 -- the first terms of a table by themselves
@@ -95,28 +96,38 @@ module _ (g : Told) where
       go below (inr e) = rw (e, first_cyclic) below
 
   -- one was found before
-  pub first_old : (c : Cyclic) (rs : List (List ℕ)) → c.found ≡ true → cyclic_of c ≡ first_cyclic g (cyclic_of c) rs
-  unfolding first_cyclic cyclic_of
-  first_old c rs e = rw (e, cyclic_of)
+  pub first_old : (c : Option (List ℕ)) (rs : List (List ℕ)) → IsSome c → option_to_list c ≡ first_cyclic g (option_to_list c) rs
+  unfolding first_cyclic
+  first_old (Some l) rs e = refl
+  first_old None rs e = not_both false e refl
 
-  module _ (c : Cyclic) (f : ℕ) (template : List ℕ) where
-    -- a variable of the body
-    pub first_without : f ≡ 0 → cyclic_of c ≡ first_cyclic g (cyclic_of c) (row_with f template)
-    unfolding row_with
-    first_without e = sym (rw (eq-eqb f 0 e, row_with) (first_none (cyclic_of c)))
+  -- a variable of the body
+  pub first_without : (c : Option (List ℕ)) (f : ℕ) (template : List ℕ) → f ≡ 0 → option_to_list c ≡ first_cyclic g (option_to_list c) (row_with f template)
+  unfolding row_with
+  first_without c f template e = sym (rw (eq-eqb f 0 e, row_with) (first_none (option_to_list c)))
+
+  module _ (f : ℕ) (template : List ℕ) (some : f ≡ 0 → ⊥) (found : Bool) (p : found ≡ cyclic_row g (set template 0 f)) where
+    first_found : option_to_list (then_some found (set template 0 f)) ≡ first_cyclic g [] (row_with f template)
+    unfolding row_with first_cyclic
+    first_found = rw (ne_eqb f 0 some, row_with) (go found p)
+      where
+        go : (b : Bool) → b ≡ cyclic_row g (set template 0 f) → option_to_list (then_some b (set template 0 f)) ≡ first_cyclic g [] (set template 0 f ∷ [])
+        go true q = rw (sym q, first_cyclic) refl
+        go false q = rw (sym q, first_cyclic) refl
 
     -- a variable with a Skolem function, by its test
-    pub first_test : c.found ≡ false → (f ≡ 0 → ⊥) → (found : Bool) → found ≡ cyclic_row g (set template 0 f)
-        → cyclic_of (record { found = found; row = set template 0 f }) ≡ first_cyclic g (cyclic_of c) (row_with f template)
-    unfolding row_with cyclic_of first_cyclic
-    first_test e h true p = rw (e, ne_eqb f 0 h, cyclic_of, row_with) (rw (sym p, first_cyclic))
-    first_test e h false p = rw (e, ne_eqb f 0 h, cyclic_of, row_with) (rw (sym p, first_cyclic))
+    pub first_test : (c : Option (List ℕ)) → IsNone c → option_to_list (then_some found (set template 0 f)) ≡ first_cyclic g (option_to_list c) (row_with f template)
+    first_test None e = first_found
+    first_test (Some l) e = not_both true refl e
 
-  -- a function that was tested makes no difference again
-  pub unchanging_again : (f : ℕ) (template : List ℕ) → (f ≡ 0 → ⊥) → (found : Bool) → found ≡ cyclic_row g (set template 0 f)
-      → Unchanging g template (record { found = found; row = set template 0 f }) f
-  unchanging_again f template h true p = first_old (record { found = true; row = set template 0 f }) (row_with f template) refl
-  unchanging_again f template h false p = first_test (record { found = false; row = set template 0 f }) f template refl h false p
+    -- a function that was tested makes no difference again
+    pub unchanging_again : Unchanging g template (then_some found (set template 0 f)) f
+    unchanging_again = go found p first_found
+      where
+        go : (b : Bool) → b ≡ cyclic_row g (set template 0 f) → option_to_list (then_some b (set template 0 f)) ≡ first_cyclic g [] (row_with f template)
+            → Unchanging g template (then_some b (set template 0 f)) f
+        go true q e = first_old (Some (set template 0 f)) (row_with f template) refl
+        go false q e = e
 
 -- the Skolem rows of an atom's variables, one more
 pub rows_with_none : (functions template atom : List ℕ) → rows_with functions template (numbers_from atom 1 0) ≡ []

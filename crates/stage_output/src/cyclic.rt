@@ -13,11 +13,7 @@ const TERM_LIMIT: usize = 512;
 fn farther(reached: usize, argument: u16) -> usize
     ensures { (reached ≤ result) × (argument < result) × ((n : ℕ) → reached ≤ n → argument < n → result ≤ n) }
 {
-    let next = argument as usize + 1;
-    if reached < next {
-        return next;
-    }
-    reached
+    reached.max(usize::from(argument) + 1)
 }
 
 // How many of the terms from the first on the arguments of a Skolem row are among: one more than the greatest of them.
@@ -25,7 +21,7 @@ fn reach(row: [u16; 10]) -> usize
     requires { get_or row 1 0 ≤ 8 }
     ensures { Arguments result row × ((n : ℕ) → Arguments n row → result ≤ n) }
 {
-    let arity = row[1] as usize;
+    let arity = usize::from(row[1]);
     let mut reached = 0;
     for j in 0..arity {
         reached = farther(reached, row[j + 2]);
@@ -53,17 +49,10 @@ fn is_cyclic(terms: &[u16], ground: Ground, row: [u16; 10]) -> bool
     tables::nests_in_marked(terms, count, row[0], ground.depth, &mut marks[..])
 }
 
-// A cyclic row, if one was found.
-#[derive(Clone, Copy)]
-pub struct Cyclic {
-    pub found: bool,
-    pub row: [u16; 10],
-}
-
-// With the Skolem function that was tested last, 0 if none was.
+// A cyclic row, if one was found, and the Skolem function that was tested last, 0 if none was.
 #[derive(Clone, Copy)]
 pub struct Tested {
-    pub cyclic: Cyclic,
+    pub cyclic: Option<[u16; 10]>,
     pub function: u16,
 }
 
@@ -78,22 +67,13 @@ fn with_variable(
     requires { Testable ground terms.now template before }
     ensures { Looked ground terms.now template (row_with function template) before result }
 {
-    let cyclic = before.cyclic;
-    if cyclic.found {
-        return before;
-    }
-    if function == 0 {
-        return before;
-    }
-    if function == before.function {
+    if before.cyclic.is_some() || function == 0 || function == before.function {
         return before;
     }
     let mut row = template;
     row[0] = function;
-    let found = is_cyclic(terms, ground, row);
-    let first = Cyclic { found, row };
     Tested {
-        cyclic: first,
+        cyclic: is_cyclic(terms, ground, row).then_some(row),
         function,
     }
 }
@@ -113,7 +93,7 @@ pub(crate) fn with_atom(
 {
     let mut so_far = before;
     for p in 0..arity {
-        let function = functions[atom[p + 1] as usize];
+        let function = functions[usize::from(atom[p + 1])];
         so_far = with_variable(function, template, terms, ground, so_far);
     }
     so_far

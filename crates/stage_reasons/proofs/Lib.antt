@@ -1,3 +1,4 @@
 pub mod Disjuncts
 pub mod Starred
 pub mod Blocked
+pub mod Known

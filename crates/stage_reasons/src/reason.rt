@@ -1,6 +1,7 @@
 // For which variables a trigger is blocked: with ⋆ for every other variable it is blocked still, and so is every trigger that has its terms there.
 // The contracts cite specs/Starred, specs/Decisive and specs/Reason.
 ghost use Rattle.std.specs.Prelude.{◌≡◌, true, ◌<◌, length};
+ghost use Rattle.std.specs.Option.{ForSome};
 ghost use Rattle.model.specs.Lists.{all};
 ghost use Rattle.model.specs.Rules.{frontier, existential_free, entries};
 ghost use Rattle.model.specs.Form.{decoded};
@@ -19,13 +20,6 @@ use crate::stars::starred;
 use stage_output::cyclic::Ground;
 use variable_order::all_variables;
 
-// Whether it is known for which variables a trigger is blocked, and these.
-#[derive(Clone, Copy)]
-pub struct Reason {
-    pub known: bool,
-    pub variables: u8,
-}
-
 // The variables by which the facts of disjunct `d` of rule `i` are told: its own, or all of the frontier, if it has existential variables.
 pub fn own_variables(form: &[u16], i: usize, d: usize, all: u8) -> u8
     requires { RuleAt form.now i × (d < length (rule_of form.now i).head) × (all ≡ set_of (frontier (rule_of form.now i))) }
@@ -34,10 +28,7 @@ pub fn own_variables(form: &[u16], i: usize, d: usize, all: u8) -> u8
     if form_variables::skolem_count(form, i, d) != 0 {
         return all;
     }
-    let atoms = form::atoms::disjunct(form, i, d);
-    let arities = form::atoms::disjunct_arities(form, i, d);
-    let count = form::counts::atom_count(form, i, d);
-    all_variables(atoms, arities, count)
+    all_variables(form::atoms::disjunct(form, i, d))
 }
 
 // Whether no disjunct of rule `i` has existential variables.
@@ -68,8 +59,7 @@ fn blocked_outside(
     ensures { result ≡ is_blocked (test (entries (decoded form.now)) (entry_of form.now i) (rows 10 left.terms terms.now) (chosen_terms form.now i (starred set trigger))) }
 {
     let least = starred(set, trigger);
-    let outcome = blocking::test(form, before, i, least, terms, left.terms);
-    match outcome {
+    match blocking::test(form, before, i, least, terms, left.terms) {
         blocking::Outcome::Over => false,
         blocking::Outcome::Blocked => true,
         blocking::Outcome::Free => false,
@@ -85,29 +75,21 @@ fn blocked_for_disjunct(
     trigger: [u16; 8],
     terms: &[u16],
     left: Ground,
-) -> Reason
+) -> Option<u8>
     requires { Starrable form.now before.now i whole trigger left terms.now × (all (existential_free (rule_of form.now i)) (rule_of form.now i).head ≡ true) }
-    ensures { result.known ≡ true → BlockedFor form.now i (rows 10 left.terms terms.now) trigger result.variables }
+    ensures { ForSome result (λ set. BlockedFor form.now i (rows 10 left.terms terms.now) trigger set) }
 {
     let count = form::counts::disjunct_count(form, i);
     for d in 0..count {
         let own = own_variables(form, i, d, whole);
-        if own != whole {
-            if blocked_outside(form, before, i, own, trigger, terms, left) {
-                return Reason {
-                    known: true,
-                    variables: own,
-                };
-            }
+        if own != whole && blocked_outside(form, before, i, own, trigger, terms, left) {
+            return Some(own);
         }
     }
-    Reason {
-        known: false,
-        variables: whole,
-    }
+    None
 }
 
-// For which variables a trigger is blocked that is blocked: those of one disjunct, or the frontier.
+// For which variables a trigger is blocked, where that is known: those of one disjunct, or the frontier.
 pub fn blocked_for(
     form: &[u16],
     before: &[u16],
@@ -116,18 +98,15 @@ pub fn blocked_for(
     trigger: [u16; 8],
     terms: &[u16],
     left: Ground,
-) -> Reason
+) -> Option<u8>
     requires { Starrable form.now before.now i whole trigger left terms.now }
-    ensures { result.known ≡ true → BlockedFor form.now i (rows 10 left.terms terms.now) trigger result.variables }
+    ensures { ForSome result (λ set. BlockedFor form.now i (rows 10 left.terms terms.now) trigger set) }
 {
     if is_existential_free(form, i) {
-        let reason = blocked_for_disjunct(form, before, i, whole, trigger, terms, left);
-        if reason.known {
-            return reason;
+        let own = blocked_for_disjunct(form, before, i, whole, trigger, terms, left);
+        if own.is_some() {
+            return own;
         }
     }
-    Reason {
-        known: blocked_outside(form, before, i, whole, trigger, terms, left),
-        variables: whole,
-    }
+    blocked_outside(form, before, i, whole, trigger, terms, left).then_some(whole)
 }

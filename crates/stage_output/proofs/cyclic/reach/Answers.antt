@@ -1,6 +1,6 @@
 -- `stage_output::cyclic::reach` meets its contract. The loop's invariant: the first `j` arguments are below what is reached, and that is no more than
 -- they ask for. Assumes nothing.
-use mathlib.Core.Path.{◌≡◌, refl}
+use mathlib.Core.Path.{◌≡◌}
 use Prim.Native.Nat.{ℕ, ◌+◌, ◌<◌}
 use native.Mathlib.Omega.{arith}
 use borrow.Author.Count.{below_more}
@@ -8,7 +8,7 @@ use lib.ListN.{get_or}
 use Rattle.stage_output.proofs.cyclic.reach.Goals as goal
 
 pub loop-j-init : goal.loop-j-init
-loop-j-init c = (refl, omega arith, λ k h. absurd (omega arith), λ n h. omega arith)
+loop-j-init c = (c.from-arity.ensures, omega arith, λ k h. absurd (omega arith), λ n h. omega arith)
 
 pub loop-j-preserved : goal.loop-j-preserved
 loop-j-preserved c =

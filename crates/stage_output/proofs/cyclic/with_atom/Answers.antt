@@ -5,9 +5,10 @@ use mathlib.Core.List.{List}
 use Prim.Native.Nat.{ℕ, ◌+◌}
 use native.Mathlib.Omega.{arith}
 use lib.ListN.{get_or}
+use Rattle.std.specs.Prelude.{option_to_list}
 use Rattle.model.specs.Lists.{numbers_from}
 use Rattle.rows.specs.Making.{first_cyclic}
-use Rattle.stage_output.specs.Cyclic.{ground_in, cyclic_of, row_with, rows_with}
+use Rattle.stage_output.specs.Cyclic.{ground_in, row_with, rows_with}
 use Rattle.stage_output.proofs.CyclicRows.{first_none, first_append, rows_with_none, rows_with_more}
 use Rattle.stage_output.proofs.cyclic.with_atom.Goals as goal
 
@@ -18,19 +19,16 @@ loop-p-init c =
     let g = ground_in a.ground a.terms.now in (
       omega arith,
       record {
-        first = sym (ap (first_cyclic g (cyclic_of a.before.cyclic)) (rows_with_none a.functions a.template a.atom) ∙ first_none g (cyclic_of a.before.cyclic));
+        first = sym (ap (first_cyclic g (option_to_list a.before.cyclic)) (rows_with_none a.functions a.template a.atom) ∙ first_none g (option_to_list a.before.cyclic));
         unchanging = s.requires.1.unchanging;
       },
     )
 
-pub overflow_cast-function : goal.overflow_cast-function
-overflow_cast-function c = omega (arith, c.requires.0.variables c.loop-p.p c.loop-p-test.true)
+pub offset_bounds-functions-from : goal.offset_bounds-functions-from
+offset_bounds-functions-from c = omega (arith, c.from.ensures, c.requires.0.variables c.loop-p.p c.loop-p-test.true)
 
-pub offset_bounds-functions-atom : goal.offset_bounds-functions-atom
-offset_bounds-functions-atom c = omega (arith, c.requires.0.variables c.loop-p.p c.loop-p-test.true)
-
-pub bounds-functions-atom : goal.bounds-functions-atom
-bounds-functions-atom c = omega (arith, c.requires.0.variables c.loop-p.p c.loop-p-test.true)
+pub bounds-functions-from : goal.bounds-functions-from
+bounds-functions-from c = omega (arith, c.from.ensures, c.requires.0.variables c.loop-p.p c.loop-p-test.true)
 
 pub with_variable-so_far-requires : goal.with_variable-so_far-requires
 with_variable-so_far-requires c =
@@ -43,14 +41,15 @@ loop-p-preserved c =
     let l = c in
     let a = l.args in
     let g = ground_in a.ground a.terms.now in
-    let f = get_or a.functions (get_or a.atom (l.loop-p.p + 1) 0) 0 in
+    let row = λ (v : ℕ). row_with (get_or a.functions v 0) a.template in
     let seen = rows_with a.functions a.template (numbers_from a.atom 1 l.loop-p.p) in (
       omega arith,
       record {
         first = w.first
-            ∙ ap (λ (ls : List (List ℕ)). first_cyclic g ls (row_with f a.template)) l.loop-p.invariant.1.first
-            ∙ sym (first_append g (cyclic_of a.before.cyclic) seen (row_with f a.template))
-            ∙ ap (first_cyclic g (cyclic_of a.before.cyclic)) (sym (rows_with_more a.functions a.template a.atom l.loop-p.p));
+            ∙ ap (λ (ls : List (List ℕ)). first_cyclic g ls (row c.from.result)) l.loop-p.invariant.1.first
+            ∙ ap (λ (v : ℕ). first_cyclic g (first_cyclic g (option_to_list a.before.cyclic) seen) (row v)) c.from.ensures
+            ∙ sym (first_append g (option_to_list a.before.cyclic) seen (row (get_or a.atom (l.loop-p.p + 1) 0)))
+            ∙ ap (first_cyclic g (option_to_list a.before.cyclic)) (sym (rows_with_more a.functions a.template a.atom l.loop-p.p));
         unchanging = w.unchanging;
       },
     )
@@ -62,6 +61,6 @@ returns c =
     let e : l.loop-p.p ≡ a.arity = omega arith in
     record {
       first = l.loop-p.invariant.1.first
-          ∙ ap (λ (k : ℕ). first_cyclic (ground_in a.ground a.terms.now) (cyclic_of a.before.cyclic) (rows_with a.functions a.template (numbers_from a.atom 1 k))) e;
+          ∙ ap (λ (k : ℕ). first_cyclic (ground_in a.ground a.terms.now) (option_to_list a.before.cyclic) (rows_with a.functions a.template (numbers_from a.atom 1 k))) e;
       unchanging = l.loop-p.invariant.1.unchanging;
     }

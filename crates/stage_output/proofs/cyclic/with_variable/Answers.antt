@@ -1,43 +1,39 @@
 -- `stage_output::cyclic::with_variable` meets its contract. Assumes nothing.
-use mathlib.Core.Path.{sym, ap, ◌∙◌}
+use mathlib.Core.Path.{◌∙◌, sym, ap}
 use Prim.Native.Nat.{ℕ}
+use Rattle.std.specs.Prelude.{option_to_list}
 use Rattle.rows.specs.Making.{first_cyclic}
-use Rattle.stage_output.specs.Cyclic.{ground_in, cyclic_of, row_with}
+use Rattle.stage_output.specs.Cyclic.{ground_in, row_with}
 use Rattle.stage_output.proofs.CyclicRows.{arguments_set, first_old, first_without, first_test, unchanging_again}
 use Rattle.stage_output.proofs.cyclic.with_variable.Goals as goal
+use Rattle.stage_output.proofs.cyclic.with_variable.Goals.{then-is_some-via-then-is_some, then-is_some-via-else-is_some+then-function-eq0, then-is_some-via-else-is_some+else-function-eq0+then-function-before}
 
-pub returns-then-cyclic : goal.returns-then-cyclic
-returns-then-cyclic c =
-    let s = c in
-    let a = s.args in
-    record { first = first_old (ground_in a.ground a.terms.now) a.before.cyclic _ c.if-cyclic.true; unchanging = s.requires.unchanging }
-
-pub returns-then-function-eq0 : goal.returns-then-function-eq0
-returns-then-function-eq0 c =
-    let s = c in
-    let a = s.args in
-    record { first = first_without (ground_in a.ground a.terms.now) a.before.cyclic a.function a.template c.if-function-eq0.true; unchanging = s.requires.unchanging }
-
-pub returns-then-function-before : goal.returns-then-function-before
-returns-then-function-before c =
-    let s = c in
-    let a = s.args in
+pub returns-then-is_some : goal.returns-then-is_some
+returns-then-is_some c =
+    let a = c.args in
+    let g = ground_in a.ground a.terms.now in
+    let row = λ (f : ℕ). row_with f a.template in
     record {
-      first = s.requires.unchanging ∙ ap (λ (f : ℕ). first_cyclic (ground_in a.ground a.terms.now) (cyclic_of a.before.cyclic) (row_with f a.template)) (sym c.if-function-before.true);
-      unchanging = s.requires.unchanging;
+      first =
+          elim c.then-is_some.branch [
+            | then-is_some-via-then-is_some w ↦ first_old g a.before.cyclic (row a.function) (sym c.is_some.ensures ∙ w.if-is_some.true)
+            | then-is_some-via-else-is_some+then-function-eq0 w ↦ first_without g a.before.cyclic a.function a.template w.if-function-eq0.true
+            | then-is_some-via-else-is_some+else-function-eq0+then-function-before w ↦
+                c.requires.unchanging ∙ ap (λ (f : ℕ). first_cyclic g (option_to_list a.before.cyclic) (row f)) (sym w.if-function-before.true)
+          ];
+      unchanging = c.requires.unchanging;
     }
 
-pub is_cyclic-found-requires : goal.is_cyclic-found-requires
-is_cyclic-found-requires c =
-    let s = c in
-    (s.requires.standing, arguments_set s.args.function s.requires.arguments)
+pub is_cyclic-requires : goal.is_cyclic-requires
+is_cyclic-requires c = (c.requires.standing, arguments_set c.args.function c.requires.arguments)
 
 pub returns : goal.returns
 returns c =
     let a = c.args in
-    let some = c.if-function-eq0.false in
-    record {
-      first = first_test (ground_in a.ground a.terms.now) a.before.cyclic a.function a.template c.if-cyclic.false some
-          c.is_cyclic-found.result c.is_cyclic-found.ensures;
-      unchanging = unchanging_again (ground_in a.ground a.terms.now) a.function a.template some c.is_cyclic-found.result c.is_cyclic-found.ensures;
-    }
+    let g = ground_in a.ground a.terms.now in
+    let f = c.is_cyclic in
+    rw (c.then_some.ensures)
+    (record {
+      first = first_test g a.function a.template c.if-function-eq0.false f.result f.ensures a.before.cyclic (sym c.is_some.ensures ∙ c.if-is_some.false);
+      unchanging = unchanging_again g a.function a.template c.if-function-eq0.false f.result f.ensures;
+    })

@@ -1,11 +1,10 @@
 -- `stage_reasons::reason::blocked_for_disjunct` meets its contract: one disjunct after the other. Assumes nothing.
-use mathlib.Core.Path.{refl, sym, ◌∙◌}
-use mathlib.Core.Bool.{false}
+use mathlib.Core.Path.{sym, ◌∙◌}
 use native.Mathlib.Omega.{arith}
-use Rattle.laws.proofs.Bools.{not_both}
 use Rattle.tables.specs.Rows.{rows}
 use Rattle.form.proofs.Rows.{next_turn, first_disjunct}
 use Rattle.stage_reasons.proofs.Blocked.{free_blocked}
+use Rattle.stage_reasons.proofs.Known.{for_some, for_none}
 use Rattle.stage_reasons.proofs.reason.blocked_for_disjunct.Goals as goal
 
 pub disjunct_count-count-requires : goal.disjunct_count-count-requires
@@ -26,13 +25,12 @@ blocked_outside-requires c =
 
 pub returns-then-blocked_outside : goal.returns-then-blocked_outside
 returns-then-blocked_outside c =
-    let s = c in
-    let a = s.args in
-    λ e.
-    free_blocked a.form.now a.i (rows 10 a.left.terms a.terms.now) a.trigger c.own_variables-own.result (sym c.blocked_outside.ensures ∙ c.if-blocked_outside.true) s.requires.1
+    let a = c.args in
+    for_some _ c.own_variables-own.result
+    (free_blocked a.form.now a.i (rows 10 a.left.terms a.terms.now) a.trigger c.own_variables-own.result (sym c.blocked_outside.ensures ∙ c.if-blocked_outside.true) c.requires.1)
 
 pub loop-d-preserved : goal.loop-d-preserved
 loop-d-preserved c = next_turn c.loop-d.invariant (omega arith)
 
 pub returns : goal.returns
-returns c = λ e. not_both false e refl
+returns c = for_none _

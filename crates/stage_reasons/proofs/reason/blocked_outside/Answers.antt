@@ -12,11 +12,11 @@ use Rattle.blocking.specs.Outcome.{outcome_of}
 use Rattle.blocking.specs.declared.Outcome.{Outcome as Said}
 use Rattle.stage_reasons.specs.Starred.{starred}
 use Rattle.stage_reasons.specs.Reason.{is_blocked}
-use Rattle.stage_reasons.proofs.reason.blocked_outside.Goals.{After-test-outcome}
+use Rattle.stage_reasons.proofs.reason.blocked_outside.Goals.{After-test}
 use Rattle.stage_reasons.proofs.reason.blocked_outside.Goals as goal
 
-pub test-outcome-requires : goal.test-outcome-requires
-test-outcome-requires c =
+pub test-requires : goal.test-requires
+test-requires c =
     let s = c in
     let a = s.args in
     let p = s.requires in
@@ -26,22 +26,22 @@ test-outcome-requires c =
 answer : {o : Outcome} {said told : Said} → outcome_of said ≡ o → said ≡ told → is_blocked (outcome_of told) ≡ is_blocked o
 answer e t = ap (λ (x : Said). is_blocked (outcome_of x)) (sym t) ∙ ap is_blocked e
 
-asked : (c : After-test-outcome)
-    → outcome_of c.test-outcome.result ≡ test (entries (decoded c.args.form.now)) (entry_of c.args.form.now c.args.i) (rows 10 c.args.left.terms c.args.terms.now)
+asked : (c : After-test)
+    → outcome_of c.test.result ≡ test (entries (decoded c.args.form.now)) (entry_of c.args.form.now c.args.i) (rows 10 c.args.left.terms c.args.terms.now)
     (chosen_terms c.args.form.now c.args.i (starred c.args.set c.args.trigger))
 asked c =
-    c.test-outcome.ensures
+    c.test.ensures
     ∙ ap (λ (xs : List ℕ).
     test (entries (decoded c.args.form.now)) (entry_of c.args.form.now c.args.i) (rows 10 c.args.left.terms c.args.terms.now) (chosen_terms c.args.form.now c.args.i xs)) c.starred-least.ensures
 
 pub returns-in-Over : goal.returns-in-Over
 unfolding is_blocked
-returns-in-Over c = answer (asked (goal.at.returns-in-Over c).After-test-outcome) c.in-Over.is
+returns-in-Over c = answer (asked (goal.at.returns-in-Over c).After-test) c.in-Over.is
 
 pub returns-in-Blocked : goal.returns-in-Blocked
 unfolding is_blocked
-returns-in-Blocked c = answer (asked (goal.at.returns-in-Blocked c).After-test-outcome) c.in-Blocked.is
+returns-in-Blocked c = answer (asked (goal.at.returns-in-Blocked c).After-test) c.in-Blocked.is
 
 pub returns-in-Free : goal.returns-in-Free
 unfolding is_blocked
-returns-in-Free c = answer (asked (goal.at.returns-in-Free c).After-test-outcome) c.in-Free.is
+returns-in-Free c = answer (asked (goal.at.returns-in-Free c).After-test) c.in-Free.is
