@@ -13,7 +13,7 @@ use Rattle.model.specs.Form.{form_length, decoded, done, refusal, Reading, readi
 use Rattle.model.specs.Stages.{Verdict, accepted, cyclic_at, refused, stage, cyclic_terms, verdict}
 use Rattle.model.specs.Limits.{terms_front, facts_front}
 use Rattle.model.specs.Tables.{term_row, fact_row, fronted, is_depth, checked}
-use Rattle.judging.specs.declared.verdict.Verdict as declared
+use Rattle.judging.specs.declared.Answer.{Answer}
 use Rattle.judging.specs.Verdict.{meant}
 use Rattle.laws.proofs.Bools.{not_both, and_true}
 use Rattle.laws_stages.specs.Reached.{Reached}
@@ -69,18 +69,18 @@ module _ (d : ℕ) (b : RuleSet) (w : WellFormed b) where
 
 -- the tables of an answer
 
-module _ (d : ℕ) (form : List ℕ) (h : Held form) (v : declared.Verdict) (terms : List ℕ) (n : ℕ) (facts : List ℕ) (m : ℕ) (e : answer_of v terms n facts m ≡ judged d (decoded form)) where
-  pub answer_few : (n ≤ 513) × (m ≤ 2048)
+module _ (d : ℕ) (form : List ℕ) (h : Held form) (a : Answer) (terms facts : List ℕ) (e : answer_of a terms facts ≡ judged d (decoded form)) where
+  pub answer_few : (a.terms ≤ 513) × (a.facts ≤ 2048)
   answer_few =
       let f = subst Few (sym e) (judged_few d (decoded form) h.sound) in
-      (omega (arith, f.terms, rows_length 10 n terms), omega (arith, f.facts, rows_length 5 m facts))
+      (omega (arith, f.terms, rows_length 10 a.terms terms), omega (arith, f.facts, rows_length 5 a.facts facts))
 
-  pub answer_left : (terms₀ facts₀ terms' facts' : List ℕ) → terms' ≡ fronted terms_front (take (n * 10) terms) terms₀ → facts' ≡ fronted facts_front (take (m * 5) facts) facts₀
-      → record { verdict = meant v; terms = terms'; facts = facts' } ≡ left_by (judged d (decoded form)) terms₀ facts₀
+  pub answer_left : (terms₀ facts₀ terms' facts' : List ℕ) → terms' ≡ fronted terms_front (take (a.terms * 10) terms) terms₀ → facts' ≡ fronted facts_front (take (a.facts * 5) facts) facts₀
+      → record { verdict = meant a.verdict; terms = terms'; facts = facts' } ≡ left_by (judged d (decoded form)) terms₀ facts₀
   answer_left terms₀ facts₀ terms' facts' p q =
-      let s : terms' ≡ fronted terms_front (flat (rows 10 n terms)) terms₀ = p ∙ ap (λ (l : List ℕ). fronted terms_front l terms₀) (sym (flat_rows 10 n terms)) in
-      let t : facts' ≡ fronted facts_front (flat (rows 5 m facts)) facts₀ = q ∙ ap (λ (l : List ℕ). fronted facts_front l facts₀) (sym (flat_rows 5 m facts)) in
-      (λ i. record { verdict = meant v; terms = s i; facts = t i }) ∙ ap (λ (j : Judged). left_by j terms₀ facts₀) e
+      let s : terms' ≡ fronted terms_front (flat (rows 10 a.terms terms)) terms₀ = p ∙ ap (λ (l : List ℕ). fronted terms_front l terms₀) (sym (flat_rows 10 a.terms terms)) in
+      let t : facts' ≡ fronted facts_front (flat (rows 5 a.facts facts)) facts₀ = q ∙ ap (λ (l : List ℕ). fronted facts_front l facts₀) (sym (flat_rows 5 a.facts facts)) in
+      (λ i. record { verdict = meant a.verdict; terms = s i; facts = t i }) ∙ ap (λ (j : Judged). left_by j terms₀ facts₀) e
 
 -- the number is a depth, or none
 

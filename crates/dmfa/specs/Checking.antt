@@ -1,6 +1,6 @@
 -- What the check is given and leaves, as the code has it: the verdict and the caller's tables, or that the room for terms was short. Assumes
 -- nothing.
-use Rattle.std.specs.Prelude.{◌≡◌, List, ℕ, ◌≤◌, ◌<◌, length}
+use Rattle.std.specs.Prelude.{◌≡◌, List, ℕ, ◌≤◌, ◌<◌, length, Option, Some, None}
 use Rattle.model.specs.Limits.{terms_front, facts_front}
 use Rattle.model.specs.Form.{decoded}
 use Rattle.form.specs.Places.{Held}
@@ -9,8 +9,6 @@ use Rattle.rows.specs.Judging.{judged, left_by}
 use Rattle.judging.specs.declared.verdict.Verdict.{Verdict}
 use Rattle.judging.specs.Verdict.{meant}
 use Rattle.judging.specs.Judging.{large_room}
-use Rattle.dmfa.specs.declared.Checked.{Checked}
-use Rattle.dmfa.specs.declared.Checked.TheVariants as checked
 
 -- a table of terms with room for 640
 abbrev pub small_room : ℕ
@@ -29,6 +27,6 @@ abbrev pub Leaves : ℕ → List ℕ → List ℕ → List ℕ → Verdict → L
 Leaves depth form terms₀ facts₀ v terms facts = record { verdict = meant v; terms = terms; facts = facts } ≡ left_by (judged depth (decoded form)) terms₀ facts₀
 
 -- so it is, unless a room of so many numbers for the stages' terms was short: then the caller's tables stay as they were
-abbrev pub CheckedAs : ℕ → List ℕ → ℕ → List ℕ → List ℕ → Checked → List ℕ → List ℕ → Type 0
-CheckedAs depth form room terms₀ facts₀ (checked.Answer v) terms facts = Leaves depth form terms₀ facts₀ v terms facts
-CheckedAs depth form room terms₀ facts₀ checked.Short terms facts = (room < large_room) × (terms ≡ terms₀) × (facts ≡ facts₀)
+abbrev pub CheckedAs : ℕ → List ℕ → ℕ → List ℕ → List ℕ → Option Verdict → List ℕ → List ℕ → Type 0
+CheckedAs depth form room terms₀ facts₀ (Some v) terms facts = Leaves depth form terms₀ facts₀ v terms facts
+CheckedAs depth form room terms₀ facts₀ None terms facts = (room < large_room) × (terms ≡ terms₀) × (facts ≡ facts₀)

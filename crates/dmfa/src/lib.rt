@@ -13,9 +13,9 @@ ghost use Rattle.dmfa.specs.Promises.{Checks};
 ghost use Rattle.dmfa.specs.Checking.{small_room, Checkable, Leaves, CheckedAs};
 
 use crate::caller_tables::fill;
+use judging::judge;
 use judging::verdict::Verdict;
-use judging::{Judgement, judge};
-use reader::Transfer;
+use refusal::{Refusal, Refused};
 
 // The caller's tables begin with 513 terms, those of a stage and a cyclic one, and with 2,048 facts.
 const TERMS_FRONT: usize = 5130;
@@ -44,15 +44,8 @@ const FORM_LENGTH: usize = 7812;
 
 const DISJUNCTS: usize = 256;
 
-// The verdict, or that the room for terms was short.
-#[derive(Clone, Copy)]
-pub enum Checked {
-    Answer(Verdict),
-    Short,
-}
-
-// The verdict, with room for the stages' terms and for their facts, both hashed, and the fronts of the caller's two tables. These stay as they
-// were if the room for terms was short.
+// The verdict, with room for the stages' terms and for their facts, both hashed, and the fronts of the caller's two tables. None: the room for
+// terms was short, and these stay as they were.
 fn check_by(
     form: &[u16],
     before: &[u16],
@@ -61,19 +54,19 @@ fn check_by(
     terms: &mut [u16],
     facts: &mut [u16],
     depth: u8,
-) -> Checked
+) -> Option<Verdict>
     requires { Checkable depth form.now before.now terms.old facts.old × KeptTerms room.old 0 × Kept hashed.old 0 fact_room }
     ensures { CheckedAs depth form.now (length room.old) terms.old facts.old result terms.new facts.new }
 {
-    let judgement = judge(form, before, &mut *room, &mut *hashed, depth);
-    match judgement {
-        Judgement::Answer(verdict, n, m) => {
-            fill(&*room, n * TERM_WIDTH, TERMS_FRONT, &mut *terms);
-            fill(&*hashed, m * FACT_WIDTH, FACTS_FRONT, &mut *facts);
-            Checked::Answer(verdict)
-        }
-        Judgement::Short => Checked::Short,
-    }
+    let answer = judge(form, before, &mut *room, &mut *hashed, depth)?;
+    fill(&*room, answer.terms * TERM_WIDTH, TERMS_FRONT, &mut *terms);
+    fill(
+        &*hashed,
+        answer.facts * FACT_WIDTH,
+        FACTS_FRONT,
+        &mut *facts,
+    );
+    Some(answer.verdict)
 }
 
 // The verdict if 640 terms are room enough, as they are for nearly every rule set: less is to be cleared.
@@ -83,7 +76,7 @@ fn check_small(
     terms: &mut [u16],
     facts: &mut [u16],
     depth: u8,
-) -> Checked
+) -> Option<Verdict>
     requires { Checkable depth form.now before.now terms.old facts.old }
     ensures { CheckedAs depth form.now small_room terms.old facts.old result terms.new facts.new }
 {
@@ -113,7 +106,7 @@ fn check_large(
 {
     let mut stage_terms = [0u16; LARGE_ROOM];
     let mut stage_facts = [0u16; FACTS_ROOM];
-    let large = check_by(
+    check_by(
         form,
         before,
         &mut stage_terms[..],
@@ -121,12 +114,8 @@ fn check_large(
         &mut *terms,
         &mut *facts,
         depth,
-    );
-    match large {
-        Checked::Answer(verdict) => verdict,
-        // never, by the contract of check_by
-        Checked::Short => Verdict::Refused(14, 0),
-    }
+    )
+    .unwrap()
 }
 
 // The verdict on the rule set of a form at a depth, and the fronts of the caller's two tables.
@@ -136,10 +125,9 @@ fn check_form(form: &[u16], terms: &mut [u16], facts: &mut [u16], depth: u8) -> 
 {
     let mut before = [0u16; DISJUNCTS];
     form_functions::number_functions(form, &mut before[..]);
-    let small = check_small(form, &before[..], &mut *terms, &mut *facts, depth);
-    match small {
-        Checked::Answer(verdict) => verdict,
-        Checked::Short => check_large(form, &before[..], &mut *terms, &mut *facts, depth),
+    match check_small(form, &before[..], &mut *terms, &mut *facts, depth) {
+        Some(verdict) => verdict,
+        None => check_large(form, &before[..], &mut *terms, &mut *facts, depth),
     }
 }
 
@@ -147,32 +135,28 @@ fn check_form(form: &[u16], terms: &mut [u16], facts: &mut [u16], depth: u8) -> 
 pub fn is_depth(depth: usize) -> bool
     ensures { result ≡ is_depth depth }
 {
-    if depth < 1 {
-        return false;
-    }
-    if DEPTH_LIMIT < depth {
-        return false;
-    }
-    true
+    (1..=DEPTH_LIMIT).contains(&depth)
 }
 
 // The verdict on a rule set given as bytes, at a depth from 1 to 3, and the caller's two tables.
 pub fn check(bytes: &[u8], depth: usize, terms: &mut [u16], facts: &mut [u16]) -> Verdict
     ensures { Checks depth bytes.now terms.old facts.old result terms.new facts.new }
 {
-    if terms.len() < TERMS_FRONT {
-        return Verdict::Refused(1, 0);
-    }
-    if facts.len() < FACTS_FRONT {
-        return Verdict::Refused(1, 0);
+    if terms.len() < TERMS_FRONT || facts.len() < FACTS_FRONT {
+        return Verdict::Refused(Refused {
+            refusal: Refusal::ShortList,
+            place: 0,
+        });
     }
     if !is_depth(depth) {
-        return Verdict::Refused(18, 0);
+        return Verdict::Refused(Refused {
+            refusal: Refusal::Depth,
+            place: 0,
+        });
     }
     let mut form = [0u16; FORM_LENGTH];
-    let read = reader::read_afresh(bytes, &mut form[..]);
-    match read {
-        Transfer::Done(_) => { check_form(&form[..], &mut *terms, &mut *facts, depth as u8) }
-        Transfer::Refusal(refusal, place) => Verdict::Refused(refusal as usize, place),
+    match reader::read_afresh(bytes, &mut form[..]) {
+        Ok(_) => check_form(&form[..], &mut *terms, &mut *facts, depth as u8),
+        Err(refused) => Verdict::Refused(refused),
     }
 }

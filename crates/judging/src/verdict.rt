@@ -1,4 +1,5 @@
 // The answer of the check, by value. specs/Verdict says which verdict of the model each case is.
+use refusal::Refused;
 
 #[derive(Clone, Copy)]
 pub enum Verdict {
@@ -6,6 +7,6 @@ pub enum Verdict {
     Accepted(usize, usize, usize),
     // the stage that would hold a cyclic term, then the counts of facts and terms of the one before it
     Cyclic(usize, usize, usize),
-    // the number of the refusal, and its place
-    Refused(usize, usize),
+    // why the answer is refused, and where
+    Refused(Refused),
 }

@@ -4,36 +4,30 @@ use native.Mathlib.Omega.{arith}
 use Rattle.dmfa.proofs.Checking.{answer_few, answer_left}
 use Rattle.dmfa.proofs.check_by.Goals as goal
 
-pub judge-judgement-requires : goal.judge-judgement-requires
-judge-judgement-requires c = record { deep = c.requires.0.deep; held = c.requires.0.held; numbered = c.requires.0.numbered; found = c.requires.1; kept = c.requires.2 }
+pub judge-requires : goal.judge-requires
+judge-requires c = record { deep = c.requires.0.deep; held = c.requires.0.held; numbered = c.requires.0.numbered; found = c.requires.1; kept = c.requires.2 }
 
-pub overflow_mul-n : goal.overflow_mul-n
-overflow_mul-n c =
-    let f = answer_few c.args.depth c.args.form.now c.requires.0.held c.in-Answer.verdict c.judge-judgement.new.terms c.in-Answer.n c.judge-judgement.new.facts c.in-Answer.m c.in-Answer.ensures in
-    omega (arith, f.0)
+pub overflow_mul-answer : goal.overflow_mul-answer
+overflow_mul-answer c = omega (arith, answer_few c.args.depth c.args.form.now c.requires.0.held c.in_ok-answer.answer c.judge.new.terms c.judge.new.facts c.in_ok-answer.ensures)
 
 pub fill-requires : goal.fill-requires
 fill-requires c =
-    let f = answer_few c.args.depth c.args.form.now c.requires.0.held c.in-Answer.verdict c.judge-judgement.new.terms c.in-Answer.n c.judge-judgement.new.facts c.in-Answer.m c.in-Answer.ensures in
-    (omega (arith, f.0, c.judge-judgement.auto.terms, c.requires.1.wide), omega (arith, f.0), c.requires.0.terms_long)
+    let f = answer_few c.args.depth c.args.form.now c.requires.0.held c.in_ok-answer.answer c.judge.new.terms c.judge.new.facts c.in_ok-answer.ensures in
+    (omega (arith, f.0, c.requires.1.wide), omega (arith, f.0), c.requires.0.terms_long)
 
-pub overflow_mul-m : goal.overflow_mul-m
-overflow_mul-m c =
-    let f = answer_few c.args.depth c.args.form.now c.requires.0.held c.in-Answer.verdict c.judge-judgement.new.terms c.in-Answer.n c.judge-judgement.new.facts c.in-Answer.m c.in-Answer.ensures in
-    omega (arith, f.1)
+pub overflow_mul-answer-2 : goal.overflow_mul-answer-2
+overflow_mul-answer-2 c = omega (arith, answer_few c.args.depth c.args.form.now c.requires.0.held c.in_ok-answer.answer c.judge.new.terms c.judge.new.facts c.in_ok-answer.ensures)
 
-pub fill-requires-in-Answer : goal.fill-requires-in-Answer
-fill-requires-in-Answer c =
-    let f = answer_few c.args.depth c.args.form.now c.requires.0.held c.in-Answer.verdict c.judge-judgement.new.terms c.in-Answer.n c.judge-judgement.new.facts c.in-Answer.m c.in-Answer.ensures in
-    (omega (arith, f.1, c.judge-judgement.auto.facts, c.requires.2.limited.fits), omega (arith, f.1), c.requires.0.facts_long)
+pub fill-requires-2 : goal.fill-requires-2
+fill-requires-2 c =
+    let f = answer_few c.args.depth c.args.form.now c.requires.0.held c.in_ok-answer.answer c.judge.new.terms c.judge.new.facts c.in_ok-answer.ensures in
+    (omega (arith, f.1, c.requires.2.limited.fits), omega (arith, f.1), c.requires.0.facts_long)
 
-pub returns-in-Answer : goal.returns-in-Answer
-returns-in-Answer c =
+pub returns-in_err-answer : goal.returns-in_err-answer
+returns-in_err-answer c = rw c.from_residual.ensures (c.in_err-answer.ensures, refl, refl)
+
+pub returns : goal.returns
+returns c =
     let a = c.args in
-    let d = c.judge-judgement in
-    let i = c.in-Answer in
-    answer_left a.depth a.form.now c.requires.0.held i.verdict d.new.terms i.n d.new.facts i.m i.ensures a.terms.now a.facts.now
-    c.fill.new.table c.fill-in-Answer.new.table c.fill.ensures c.fill-in-Answer.ensures
-
-pub returns-in-Short : goal.returns-in-Short
-returns-in-Short c = (c.in-Short.ensures, refl, refl)
+    answer_left a.depth a.form.now c.requires.0.held c.in_ok-answer.answer c.judge.new.terms c.judge.new.facts c.in_ok-answer.ensures a.terms.now a.facts.now
+    c.fill.new.table c.fill-2.new.table c.fill.ensures c.fill-2.ensures

@@ -21,8 +21,8 @@ numbered form before h long e =
 pub number_functions-requires : goal.number_functions-requires
 number_functions-requires c = (c.requires.1, omega (arith, few_rules c.args.form.now c.requires.1))
 
-pub check_small-small-requires : goal.check_small-small-requires
-check_small-small-requires c =
+pub check_small-requires : goal.check_small-requires
+check_small-requires c =
     let n = c.number_functions in
     record {
       deep = c.requires.0;
@@ -35,7 +35,7 @@ check_small-small-requires c =
 pub check_large-requires : goal.check_large-requires
 check_large-requires c =
     let n = c.number_functions in
-    let d = c.check_small-small in
+    let d = c.check_small in
     record {
       deep = c.requires.0;
       held = c.requires.1;
@@ -44,16 +44,16 @@ check_large-requires c =
       facts_long = omega (arith, d.auto.facts, c.requires.3);
     }
 
-pub returns-in-Answer : goal.returns-in-Answer
-returns-in-Answer c = c.in-Answer.ensures
+pub returns-in-Some : goal.returns-in-Some
+returns-in-Some c = c.in-Some.ensures
 
-pub shape_of-terms-in-Short : goal.shape_of-terms-in-Short
-shape_of-terms-in-Short c = c.check_large.auto.terms ∙ c.check_small-small.auto.terms
+pub shape_of-terms-in-None : goal.shape_of-terms-in-None
+shape_of-terms-in-None c = c.check_large.auto.terms ∙ c.check_small.auto.terms
 
-pub shape_of-facts-in-Short : goal.shape_of-facts-in-Short
-shape_of-facts-in-Short c = c.check_large.auto.facts ∙ c.check_small-small.auto.facts
+pub shape_of-facts-in-None : goal.shape_of-facts-in-None
+shape_of-facts-in-None c = c.check_large.auto.facts ∙ c.check_small.auto.facts
 
-pub returns-in-Short : goal.returns-in-Short
-returns-in-Short c =
-    let k = c.in-Short.ensures in
+pub returns-in-None : goal.returns-in-None
+returns-in-None c =
+    let k = c.in-None.ensures in
     c.check_large.ensures ∙ ap₂ (left_by (judged c.args.depth (decoded c.args.form.now))) k.1 k.2
