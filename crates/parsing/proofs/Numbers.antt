@@ -13,10 +13,8 @@ use Rattle.model.specs.Limits.{narrow_limit, predicate_limit}
 use Rattle.model.specs.Rules.{wide, most_predicates}
 use Rattle.model.specs.Format.{Parsed, good, bad, and_then, byte, number}
 use Rattle.laws.proofs.Bools.{case, and_true}
-use Rattle.parsing.specs.Step.{wide_step_of, ranged, Filled}
-use Rattle.parsing.specs.declared.Step.TheVariants.{Bad as StepBad}
-use Rattle.parsing.specs.declared.WideStep.TheVariants.{Good, Bad}
-use Rattle.parsing.proofs.Parsing.{bad_is_not_good, byte_good, filled_bad}
+use Rattle.parsing.specs.Step.{ranged}
+use Rattle.parsing.proofs.Parsing.{bad_is_not_good, byte_good}
 
 module _ (n low high refusal i next : ℕ) where
   pub ranged_below : n < low → ranged n low high refusal i next ≡ bad refusal i
@@ -98,26 +96,3 @@ most_of w version e = rw (most_predicates, e)
 -- the number that two bytes were found to spell
 pub pair_of : (bs : List ℕ) (i p q : ℕ) → p ≡ get_or bs i 0 → q ≡ get_or bs (i + 1) 0 → p * 256 + q ≡ get_or bs i 0 * 256 + get_or bs (suc i) 0
 pair_of bs i p q e f = rw (e, f, add-one i)
-
--- a step of a number, and the parse that it came from
-pub wide_good : (parsed : Parsed ℕ) (v i : ℕ) → Good v i ≡ wide_step_of parsed → parsed ≡ good v i
-unfolding wide_step_of
-wide_good (good a j) v i e =
-    let f : a ≡ v = cc in
-    let g : j ≡ i = cc in
-    cc
-wide_good (bad n p) v i e = absurd (let z : ◌≡◌ {A = ℕ} 0 1 = cc in omega arith)
-
-pub wide_bad : (parsed : Parsed ℕ) (n p : ℕ) → Bad n p ≡ wide_step_of parsed → parsed ≡ bad n p
-unfolding wide_step_of
-wide_bad (good a j) n p e = absurd (let z : ◌≡◌ {A = ℕ} 0 1 = cc in omega arith)
-wide_bad (bad m q) n p e =
-    let f : m ≡ n = cc in
-    let g : q ≡ p = cc in
-    cc
-
--- the refusal of a number is that of what it begins
-pub wide_refused : {B : Type 0} (keep : B → ℕ) (row : B → List ℕ) (parsed : Parsed ℕ) (then : ℕ → ℕ → Parsed B) (n p : ℕ) (left : List ℕ)
-    → Bad n p ≡ wide_step_of parsed → Filled keep row (and_then parsed then) (StepBad n p) left
-unfolding and_then
-wide_refused keep row parsed then n p left e = filled_bad keep row (and_then parsed then) n p left (rw (wide_bad parsed n p e))

@@ -7,6 +7,10 @@ use lib.ListN.{length, take, drop, set, length-append, length-set}
 use lib.Seq.{take_at, drop_at, set_at}
 use borrow.Author.Tests.{eq-eqb, ne_eqb}
 use borrow.Rule.Slice.PartMut.{same_len_mid}
+use Rattle.core.specs.declared.result.Result.{Result}
+use Rattle.core.specs.declared.result.Result.TheVariants.{Ok, Err}
+use Rattle.refusal.specs.declared.Refusal.TheVariants.{End}
+use Rattle.refusal.specs.declared.Refused.{Refused}
 use Rattle.model.specs.Lists.{padded, collect}
 use Rattle.model.specs.Limits.{last_version}
 use Rattle.model.specs.Rules.{Rule, wide, most_predicates}
@@ -15,8 +19,7 @@ use Rattle.model.specs.Form.{rule_row, encoded}
 use Rattle.laws_format.proofs.Format.{and_then_assoc}
 use Rattle.parsing.specs.Step.{zeros, Filled, none, Arities, parsed_rules}
 use Rattle.reader.specs.Parts.{rules_row, after_arities, after_count}
-use Rattle.parsing.specs.declared.Step.{Step}
-use Rattle.parsing.specs.declared.Step.TheVariants.{Good, Bad}
+use Rattle.parsing.specs.declared.Parsed.{Parsed as Read}
 use Rattle.parsing.proofs.Lists.{zeros_suc, length_zeros, zeros_length, drop_zeros, padded_zeros}
 use Rattle.parsing.proofs.Parsing.{continues, filled_good, filled_bad, byte_good}
 use Rattle.parsing.proofs.Many.{many_length, many_at}
@@ -115,15 +118,16 @@ form_encoded form version arities places rules rs z h e f =
 -- the end of the bytes
 
 module _ (bs : List ℕ) (version : ℕ) (arities : List ℕ) (i e : ℕ) (rs : List Rule) (left : List ℕ) (p : parsed_rules bs (signed version arities) i ≡ good rs e) where
-  pub ends_good : e ≡ length bs → left ≡ encoded (record { version = version; fixed = 0; arities = arities; rules = rs }) → Filled none encoded (after_arities bs version arities i) (Good 0 e) left
+  pub ends_good : e ≡ length bs → left ≡ encoded (record { version = version; fixed = 0; arities = arities; rules = rs })
+      → Filled none encoded (after_arities bs version arities i) (Ok (record { value = tt; next = e })) left
   unfolding after_arities
   ends_good h l =
       continues _ _ _ _ _ _ rs e p
-      (filled_good none encoded _ (record { version = version; fixed = 0; arities = arities; rules = rs }) 0 e left (rw (eq-eqb e (length bs) h)) refl l)
+      (filled_good none encoded _ left (record { version = version; fixed = 0; arities = arities; rules = rs }) tt e (rw (eq-eqb e (length bs) h)) refl l)
 
-  pub ends_bad : (e ≡ length bs → ⊥) → Filled none encoded (after_arities bs version arities i) (Bad 10 e) left
+  pub ends_bad : (e ≡ length bs → ⊥) → Filled none encoded (after_arities bs version arities i) (Err (record { refusal = End; place = e })) left
   unfolding after_arities
-  ends_bad h = continues _ _ _ _ _ _ rs e p (filled_bad none encoded _ 10 e left (rw (ne_eqb e (length bs) h)))
+  ends_bad h = continues _ _ _ _ _ _ rs e p (filled_bad none encoded _ left _ (rw (ne_eqb e (length bs) h)))
 
 -- what follows the count of predicates, once the arities are read
 
@@ -140,7 +144,7 @@ module _ (bs : List ℕ) (n j k : ℕ) (ar : List ℕ) (p : many n (byte bs 1 4 
   pub arities_taken : (places : List ℕ) → places ≡ padded 1024 ar → take n places ≡ ar
   arities_taken places e = rw (e, padded_zeros) (take_at ar (zeros (1024 - length ar)) n (many_length n (byte bs 1 4 4) j ar k p))
 
-  pub count_filled : (version : ℕ) (taken left : List ℕ) (r : Step) → taken ≡ ar → Filled none encoded (after_arities bs version taken k) r left
+  pub count_filled : (version : ℕ) (taken left : List ℕ) (r : Result (Read (Unit {0})) Refused) → taken ≡ ar → Filled none encoded (after_arities bs version taken k) r left
       → Filled none encoded (after_count bs version n j) r left
   unfolding after_count
   count_filled version taken left r t h =
