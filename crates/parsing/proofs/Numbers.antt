@@ -25,6 +25,10 @@ module _ (n low high refusal i next : ℕ) where
   unfolding ranged
   ranged_above h l = rw (le-leb low n h, lt-leb n high l, ranged)
 
+  pub ranged_outside : (n < low) ⊎ ((low ≤ n) × (high < n)) → ranged n low high refusal i next ≡ bad refusal i
+  ranged_outside (inl h) = ranged_below h
+  ranged_outside (inr (h, l)) = ranged_above h l
+
   pub ranged_within : low ≤ n → n ≤ high → ranged n low high refusal i next ≡ good n next
   unfolding ranged
   ranged_within h l = rw (le-leb low n h, le-leb n high l, ranged)
@@ -92,7 +96,3 @@ number_of w version bs low high refusal i e = ap (λ (x : Bool). number x bs low
 pub most_of : (w : Bool) (version : ℕ) → wide version ≡ w → elim w [ true ↦ predicate_limit | false ↦ narrow_limit ] ≡ most_predicates version
 unfolding most_predicates
 most_of w version e = rw (most_predicates, e)
-
--- the number that two bytes were found to spell
-pub pair_of : (bs : List ℕ) (i p q : ℕ) → p ≡ get_or bs i 0 → q ≡ get_or bs (i + 1) 0 → p * 256 + q ≡ get_or bs i 0 * 256 + get_or bs (suc i) 0
-pair_of bs i p q e f = rw (e, f, add-one i)

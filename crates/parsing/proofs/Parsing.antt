@@ -1,5 +1,6 @@
 -- Laws of the definitions' parsers, by cases, and what an answer of the code says of a parse. Assumes nothing.
 use mathlib.Core.Path.{◌≡◌, refl, sym, ap, ◌∙◌}
+use mathlib.Core.Logic.{◌⊎◌, inl, inr}
 use mathlib.Core.List.{List}
 use Prim.Native.Nat.{ℕ, ◌+◌, ◌≤◌, ◌<◌}
 use native.Mathlib.Omega.{arith}
@@ -29,6 +30,10 @@ module _ (bs : List ℕ) (low high refusal i : ℕ) where
   pub byte_above : i < length bs → low ≤ get_or bs i 0 → high < get_or bs i 0 → byte bs low high refusal i ≡ bad refusal i
   unfolding byte
   byte_above h l k = rw (lt-ltb i (length bs) h, le-leb low (get_or bs i 0) l, lt-leb (get_or bs i 0) high k, byte)
+
+  pub byte_outside : i < length bs → (get_or bs i 0 < low) ⊎ ((low ≤ get_or bs i 0) × (high < get_or bs i 0)) → byte bs low high refusal i ≡ bad refusal i
+  byte_outside h (inl l) = byte_below h l
+  byte_outside h (inr (l, k)) = byte_above h l k
 
   pub byte_within : i < length bs → low ≤ get_or bs i 0 → get_or bs i 0 ≤ high → byte bs low high refusal i ≡ good (get_or bs i 0) (i + 1)
   unfolding byte

@@ -85,7 +85,7 @@ fn narrow_number(bytes: &[u8], low: u16, high: u16, refusal: Refusal, i: usize) 
 fn wide_number(bytes: &[u8], low: u16, high: u16, refusal: Refusal, i: usize) -> Step<u16>
     ensures { parsed_of result ≡ format.number true bytes.now low high (number_of refusal) i }
 {
-    if bytes.len() <= i || bytes.len() - i < 2 {
+    if bytes.len().saturating_sub(i) < 2 {
         return Err(Refused { refusal: Refusal::End, place: bytes.len() });
     }
     let value = u16::from_be_bytes([bytes[i], bytes[i + 1]]);
