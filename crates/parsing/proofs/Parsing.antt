@@ -9,6 +9,8 @@ use native.Mathlib.Decide.{dec_lt}
 use lib.ListN.{length, get_or}
 use borrow.Author.Tests.{lt-ltb, le-ltb, le-leb, lt-leb}
 use Rattle.model.specs.Format.{Parsed, good, bad, and_then, byte, variable}
+use Rattle.std.specs.Result.{IsErrAnd}
+use Rattle.std.proofs.lemmas.Result.{err_from_is_err_and}
 use Rattle.core.specs.declared.result.Result.{Result}
 use Rattle.core.specs.declared.result.Result.TheVariants.{Ok, Err}
 use Rattle.refusal.specs.declared.Refused.{Refused}
@@ -64,6 +66,10 @@ module _ {A V : Type 0} (keep : A → V) where
       let f : m ≡ n = cc in
       let g : q ≡ p = cc in
       cc
+
+-- a `?` hands on the refusal that it met
+pub handed_on : {T : Type 0} {e : Refused} {r : Result T Refused} → IsErrAnd r (λ f. f ≡ e) → r ≡ Err e
+handed_on {r = r} h = let p = err_from_is_err_and r h in p.1 ∙ ap Err p.2
 
 -- the bounds of a byte that was read
 

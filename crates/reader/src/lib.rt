@@ -157,10 +157,10 @@ fn rule(bytes: &[u8], version: u8, arities: &[u16], i: usize, row: &mut [u16]) -
         n.next,
         &mut row[HEAD_PLACE..],
     )?;
-    if let Some(refusal) = head.value {
-        return Err(Refused { refusal, place: i });
+    match head.value {
+        Some(refusal) => Err(Refused { refusal, place: i }),
+        None => Ok(Parsed { value: (), next: head.next }),
     }
-    Ok(Parsed { value: (), next: head.next })
 }
 
 // n rules into the front of a row of zeros.
@@ -238,11 +238,11 @@ fn after_arities(
     form[0] = arities.len() as u16;
     form[VERSION] = u16::from(version);
     form[ARITIES..ARITIES + arities.len()].copy_from_slice(arities);
-    let end = rules(bytes, version, arities, i, &mut form[1..ARITIES])?.next;
-    if end == bytes.len() {
-        return Ok(Parsed { value: (), next: end });
+    let read = rules(bytes, version, arities, i, &mut form[1..ARITIES])?;
+    if read.next == bytes.len() {
+        return Ok(read);
     }
-    Err(Refused { refusal: Refusal::End, place: end })
+    Err(Refused { refusal: Refusal::End, place: read.next })
 }
 
 // What follows the count of predicates, into a form of zeros.

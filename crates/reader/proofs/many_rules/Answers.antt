@@ -1,9 +1,8 @@
 -- `reader::many_rules` meets its contract: between turns the loop is as `Rows` says. Assumes nothing.
 use mathlib.Core.Path.{refl}
-use Prim.Native.Nat.{◌-◌}
 use native.Mathlib.Omega.{arith}
-use Rattle.model.specs.Format.{rule}
 use Rattle.parsing.specs.Step.{none}
+use Rattle.parsing.proofs.Parsing.{handed_on}
 use Rattle.parsing.proofs.Many.{rows_begun, rows_lent, rows_length, rows_more, rows_failed, rows_same, rows_finished}
 use Rattle.reader.proofs.many_rules.Goals as goal
 
@@ -17,15 +16,15 @@ rule-requires c =
 
 pub loop-k-preserved : goal.loop-k-preserved
 loop-k-preserved c =
-    let f = c.rule in
-    rows_more c.loop-k.invariant c.requires.n_le_rule_limit.1 _ f.auto.row none _ _ 0 _ (omega arith) (omega arith) c.in-Good.is f.ensures
+    rows_more c.loop-k.invariant c.requires.n_le_rule_limit.1 _ c.rule.auto.row none _ tt (omega arith) (omega arith) c.in_ok-read.ensures
     (λ r e rs m. tt)
 
-pub shape_of-rows-in-Bad : goal.shape_of-rows-in-Bad
-shape_of-rows-in-Bad c = rows_length c.loop-k.invariant c.requires.n_le_rule_limit.1 c.rule.new.row c.rule.auto.row
+pub shape_of-rows-in_err-read : goal.shape_of-rows-in_err-read
+shape_of-rows-in_err-read c = rows_length c.loop-k.invariant c.requires.n_le_rule_limit.1 c.rule.new.row c.rule.auto.row
 
-pub returns-in-Bad : goal.returns-in-Bad
-returns-in-Bad c = rows_failed c.loop-k.invariant c.requires.n_le_rule_limit.1 none _ _ _ _ _ _ _ (omega arith) c.in-Bad.is c.rule.ensures
+pub returns-in_err-read : goal.returns-in_err-read
+returns-in_err-read c =
+    rw (handed_on c.from_residual.ensures.1) (rows_failed c.loop-k.invariant c.requires.n_le_rule_limit.1 none _ _ _ _ _ (omega arith) c.in_err-read.ensures)
 
 pub shape_of-rows : goal.shape_of-rows
 shape_of-rows c = rows_same c.loop-k.invariant c.requires.n_le_rule_limit.1
