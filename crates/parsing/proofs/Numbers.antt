@@ -5,6 +5,7 @@ use mathlib.Core.Logic.{◌⊎◌, inl, inr}
 use mathlib.Core.List.{List}
 use Prim.Native.Nat.{ℕ, suc, ◌+◌, ◌*◌, ◌≤◌, ◌<◌}
 use native.Mathlib.Omega.{arith}
+use native.Mathlib.Decide.{dec_lt}
 use native.Mathlib.Numerals.{add-one}
 use lib.Dec.{ltb, leb}
 use lib.ListN.{length, get_or}
@@ -14,7 +15,7 @@ use Rattle.model.specs.Rules.{wide, most_predicates}
 use Rattle.model.specs.Format.{Parsed, good, bad, and_then, byte, number}
 use Rattle.laws.proofs.Bools.{case, and_true}
 use Rattle.parsing.specs.Step.{ranged}
-use Rattle.parsing.proofs.Parsing.{bad_is_not_good, byte_good}
+use Rattle.parsing.proofs.Parsing.{bad_is_not_good, byte_good, byte_within, byte_ended}
 
 module _ (n low high refusal i next : ℕ) where
   pub ranged_below : n < low → ranged n low high refusal i next ≡ bad refusal i
@@ -67,6 +68,34 @@ module _ (bs : List ℕ) (low high refusal i : ℕ) where
   pub pair_ranged : suc i < length bs → number true bs low high refusal i ≡ ranged (get_or bs i 0 * 256 + get_or bs (suc i) 0) low high refusal i (i + 2)
   unfolding number ranged
   pair_ranged h = let two : i + 2 ≡ suc (suc i) = omega arith in rw (two, lt-ltb (suc i) (length bs) h, number)
+
+-- a number by its bytes, whatever they are, and then its range
+
+module _ (bs : List ℕ) (low high refusal i : ℕ) (small : (k : ℕ) → get_or bs k 0 < 256) where
+  pub byte_through : byte bs low high refusal i ≡ and_then (byte bs 0 255 refusal i) (λ v j. ranged v low high refusal i j)
+  unfolding and_then
+  byte_through = go (dec_lt i (length bs))
+    where
+      go : Dec (i < length bs) → byte bs low high refusal i ≡ and_then (byte bs 0 255 refusal i) (λ v j. ranged v low high refusal i j)
+      go (yes h) = rw (byte_within bs 0 255 refusal i h (omega arith) (omega (arith, small i))) (byte_ranged bs low high refusal i h)
+      go (no h) = rw (byte_ended bs 0 255 refusal i (omega arith)) (byte_ended bs low high refusal i (omega arith))
+
+  abbrev paired : Parsed ℕ
+  paired = and_then (byte bs 0 255 refusal i) (λ v j. and_then (byte bs 0 255 refusal j) (λ w k. ranged (v * 256 + w) low high refusal i k))
+
+  pub pair_through : number true bs low high refusal i ≡ paired
+  unfolding and_then
+  pair_through = go (dec_lt i (length bs)) (dec_lt (suc i) (length bs))
+    where
+      first : i < length bs → byte bs 0 255 refusal i ≡ good (get_or bs i 0) (i + 1)
+      first h = byte_within bs 0 255 refusal i h (omega arith) (omega (arith, small i))
+
+      go : Dec (i < length bs) → Dec (suc i < length bs) → number true bs low high refusal i ≡ paired
+      go (yes h) (yes l) =
+          let two : suc i + 1 ≡ i + 2 = omega arith in
+          rw (first h, add-one i, byte_within bs 0 255 refusal (suc i) l (omega arith) (omega (arith, small (suc i))), two) (pair_ranged bs low high refusal i l)
+      go (yes h) (no l) = rw (first h, add-one i, byte_ended bs 0 255 refusal (suc i) (omega arith)) (pair_ended bs low high refusal i (omega arith))
+      go (no h) l = rw (byte_ended bs 0 255 refusal i (omega arith)) (pair_ended bs low high refusal i (omega arith))
 
 -- a number that was taken is in its range, whichever its width
 pub record Bounded (low high v : ℕ) : Type 0 where

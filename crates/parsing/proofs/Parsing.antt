@@ -133,3 +133,7 @@ refill keep rowA row parsed r leftA left s h = record { answer = h.answer; store
 pub and_then_good : {A B : Type 0} (parsed : Parsed A) (k : A → ℕ → Parsed B) (a : A) (j : ℕ) → parsed ≡ good a j → and_then parsed k ≡ k a j
 unfolding and_then
 and_then_good parsed k a j e = rw e
+
+pub and_then_bad : {A B : Type 0} (parsed : Parsed A) (k : A → ℕ → Parsed B) (n p : ℕ) → parsed ≡ bad n p → and_then parsed k ≡ bad n p
+unfolding and_then
+and_then_bad parsed k n p e = rw e

@@ -75,21 +75,18 @@ fn within(value: u16, low: u16, high: u16, refusal: Refusal, i: usize, next: usi
 fn narrow_number(bytes: &[u8], low: u16, high: u16, refusal: Refusal, i: usize) -> Step<u16>
     ensures { parsed_of result ≡ format.byte bytes.now low high (number_of refusal) i }
 {
-    if bytes.len() <= i {
-        return Err(Refused { refusal: Refusal::End, place: bytes.len() });
-    }
-    within(u16::from(bytes[i]), low, high, refusal, i, i + 1)
+    let only = byte(bytes, 0, u8::MAX, refusal, i)?;
+    within(u16::from(only.value), low, high, refusal, i, only.next)
 }
 
 // A number of two bytes, big-endian. One that is cut short is the refusal of the end, whatever its first byte is.
 fn wide_number(bytes: &[u8], low: u16, high: u16, refusal: Refusal, i: usize) -> Step<u16>
     ensures { parsed_of result ≡ format.number true bytes.now low high (number_of refusal) i }
 {
-    if bytes.len().saturating_sub(i) < 2 {
-        return Err(Refused { refusal: Refusal::End, place: bytes.len() });
-    }
-    let value = u16::from_be_bytes([bytes[i], bytes[i + 1]]);
-    within(value, low, high, refusal, i, i + 2)
+    let first = byte(bytes, 0, u8::MAX, refusal, i)?;
+    let second = byte(bytes, 0, u8::MAX, refusal, first.next)?;
+    let value = u16::from_be_bytes([first.value, second.value]);
+    within(value, low, high, refusal, i, second.next)
 }
 
 // A number from low to high at i, as long as the version has it: a count of predicates, or a predicate.
