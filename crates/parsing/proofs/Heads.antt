@@ -2,7 +2,6 @@
 -- Assumes nothing.
 use mathlib.Core.Path.{◌≡◌, refl, sym, ap, ◌∙◌}
 use mathlib.Core.Bool.{Bool, true, false, ◌&&◌, ◌||◌, not, or-false}
-use mathlib.Core.Logic.{◌⊎◌, inl, inr}
 use mathlib.Core.List.{List, [], ◌∷◌, ◌++◌, append-nil}
 use Prim.Native.Nat.{ℕ, ◌-◌, ◌≤◌, ◌<◌}
 use native.Mathlib.Decide.{dec_lt}
@@ -14,7 +13,7 @@ use Rattle.model.specs.Lists.{any, member, collect}
 use Rattle.model.specs.Rules.{Atom, Rule, variables_of, in_body, existential, repeated, detached}
 use Rattle.model.specs.Format.{Parsed, good, bad, sound}
 use Rattle.std.proofs.lemmas.Option.{none-some}
-use Rattle.laws.proofs.Bools.{case, not_both, and_true, true_and, both_ways}
+use Rattle.laws.proofs.Bools.{not_both, and_true, true_and, both_ways}
 use Rattle.laws.proofs.Lists.{any_mem, mem_any, member_mem, mem_member, any_append, collect_append}
 use Rattle.laws.proofs.Rules.{in_body_small, in_body_member, existential_mem, existential_small, mem_existential}
 use Rattle.form_variables.specs.Sets.{has, set_of}

@@ -20,7 +20,7 @@ use Rattle.laws_format.proofs.Format.{and_then_assoc}
 use Rattle.parsing.specs.Step.{zeros, Filled, none, Arities, parsed_rules}
 use Rattle.reader.specs.Parts.{rules_row, after_arities, after_count}
 use Rattle.parsing.specs.declared.Parsed.{Parsed as Read}
-use Rattle.parsing.proofs.Lists.{zeros_suc, length_zeros, zeros_length, drop_zeros, padded_zeros}
+use Rattle.parsing.proofs.Lists.{zeros_suc, length_zeros, zeros_length, padded_zeros}
 use Rattle.parsing.proofs.Parsing.{continues, filled_good, filled_bad, byte_good}
 use Rattle.parsing.proofs.Many.{many_length, many_at}
 

@@ -41,7 +41,7 @@ fn variables(bytes: &[u8], n: usize, i: usize, kept: u8, row: &mut [u16]) -> Ste
     for k in 0..n {
         let v = variable(bytes, at)?;
         row[k] = u16::from(v.value);
-        set = set | 1 << v.value;
+        set |= 1 << v.value;
         at = v.next;
     }
     Ok(Parsed { value: set, next: at })
@@ -278,10 +278,7 @@ fn stated(bytes: &[u8]) -> usize
 pub fn is_whole(bytes: &[u8]) -> bool
     ensures { result ≡ format.whole bytes.now }
 {
-    if bytes.len() < 4 {
-        return false;
-    }
-    stated(bytes) + 4 == bytes.len()
+    bytes.len() >= 4 && stated(bytes) + 4 == bytes.len()
 }
 
 // Bytes into a form of zeros that no caller sees after a refusal: then it may hold anything. There is room for it, so there is no refusal 1.

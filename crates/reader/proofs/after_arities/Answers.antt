@@ -1,12 +1,9 @@
 -- `reader::after_arities` meets its contract: count, version, arities and rules into the form, and then the end of the bytes.
 -- Assumes nothing.
-use mathlib.Core.Path.{◌≡◌, sym, ◌∙◌}
-use mathlib.Core.List.{List}
-use Prim.Native.Nat.{ℕ}
+use mathlib.Core.Path.{◌≡◌}
 use native.Mathlib.Omega.{arith}
 use lib.ListN.{length, length-set}
 use Rattle.model.specs.Format.{signed}
-use Rattle.model.specs.Form.{encoded}
 use Rattle.parsing.specs.Step.{none, parsed_rules}
 use Rattle.reader.specs.Parts.{after_arities}
 use Rattle.parsing.proofs.Lists.{zeros_length}

@@ -1,9 +1,6 @@
 -- `reader::rule_set` meets its contract: version and count of predicates, and then what follows them. Assumes nothing.
-use mathlib.Core.Path.{◌≡◌, sym, ap, ◌∙◌}
-use Prim.Native.Nat.{ℕ}
+use mathlib.Core.Path.{sym}
 use native.Mathlib.Omega.{arith}
-use Rattle.model.specs.Rules.{wide, most_predicates}
-use Rattle.model.specs.Format.{number}
 use Rattle.laws.proofs.WellFormed.{most_few}
 use Rattle.parsing.proofs.Parsing.{handed_on, refuses, continues}
 use Rattle.parsing.proofs.Numbers.{number_good}

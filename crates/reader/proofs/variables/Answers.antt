@@ -1,9 +1,9 @@
 -- `reader::variables` meets its contract: between turns the loop is as `Progress` says. Assumes nothing.
 use Prim.Native.Nat.{◌≤◌}
-use mathlib.Core.Path.{◌≡◌, refl, sym, ◌∙◌}
+use mathlib.Core.Path.{refl, sym}
 use native.Mathlib.Omega.{arith}
 use lib.ListN.{length-set}
-use Rattle.model.specs.Format.{good, variable}
+use Rattle.model.specs.Format.{variable}
 use Rattle.parsing.proofs.Parsing.{handed_on, variable_good}
 use Rattle.parsing.proofs.Many.{begun, more_single, finished_single, failed}
 use Rattle.reader.proofs.Kept.{grown_none, grown_more}
