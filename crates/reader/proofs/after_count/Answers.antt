@@ -1,9 +1,8 @@
 -- `reader::after_count` meets its contract: the arities, and then what follows them. Assumes nothing.
-use mathlib.Core.Path.{◌≡◌, refl, sym, ap, ◌∙◌}
-use lib.ListN.{length, take}
+use mathlib.Core.Path.{◌≡◌, refl}
+use lib.ListN.{take}
 use Rattle.model.specs.Format.{many, byte}
 use Rattle.parsing.specs.Step.{none, zeros}
-use Rattle.parsing.proofs.Many.{many_length}
 use Rattle.parsing.proofs.Parsing.{Parses, handed_on, step_good, step_bad, refuses}
 use Rattle.reader.specs.Parts.{after_count}
 use Rattle.reader.proofs.FormRow.{arities_good, arities_taken, count_filled}
@@ -26,16 +25,10 @@ pub returns-in_err-listed : goal.returns-in_err-listed
 unfolding after_count
 returns-in_err-listed c = rw (handed_on c.from_residual.ensures.1) (refuses _ _ _ _ _ _ (step_bad none _ _ _ c.in_err-listed.ensures.answer))
 
-pub slice_bounds-after_arities-end : goal.slice_bounds-after_arities-end
-slice_bounds-after_arities-end c =
-    let l = (goal.at.slice_bounds-after_arities-end c).In_ok-listed in
-    sym (ap length (taken l) ∙ many_length _ _ _ _ _ (listed l).parse)
-
-pub after_arities-requires : goal.after_arities-requires
-after_arities-requires c =
-    let l = (goal.at.after_arities-requires c).In_ok-listed in
-    let p = l.requires in
-    record { arities = rw (taken l) (arities_good _ _ _ _ _ (listed l).parse p.0 p.1); form_value = p.2 }
+pub after_arities-requires-clause-arities : goal.after_arities-requires-clause-arities
+after_arities-requires-clause-arities c =
+    let l = (goal.at.after_arities-requires-clause-arities c).In_ok-listed in
+    rw (taken l) (arities_good _ _ _ _ _ (listed l).parse c.requires.0 c.requires.1)
 
 pub returns : goal.returns
 returns c =

@@ -4,7 +4,7 @@ use Prim.Native.Nat.{◌<◌}
 use native.Mathlib.Omega.{arith}
 use lib.ListN.{length, length-set}
 use Rattle.model.specs.Format.{atom}
-use Rattle.parsing.proofs.Lists.{tail_zeros, tail_length, zeros_length, zeros_self, headed_length}
+use Rattle.parsing.proofs.Lists.{tail_zeros, tail_length, zeros_length, zeros_self}
 use Rattle.parsing.proofs.Parsing.{handed_on, refuses}
 use Rattle.parsing.proofs.Numbers.{number_good}
 use Rattle.reader.proofs.Rows.{atom_filled}
@@ -39,9 +39,6 @@ variables-requires c =
     let l = tail_length 4 _ c.in_ok-p.p.value z in
     let a = c.requires.arities.small c.in_ok-p.p.value in
     (rw (c.from-n.ensures, c.from.ensures) (omega arith), zeros_self 4 _ (tail_zeros 4 _ _ z))
-
-pub shape_of-row : goal.shape_of-row
-shape_of-row c = headed_length c.args.row.now c.in_ok-p.p.value c.variables.new.row c.variables.auto.row
 
 pub returns : goal.returns
 returns c =

@@ -4,7 +4,7 @@ use Prim.Native.Nat.{◌≤◌}
 use native.Mathlib.Omega.{arith}
 use lib.ListN.{length-set}
 use Rattle.model.specs.Format.{atoms}
-use Rattle.parsing.proofs.Lists.{tail_zeros, zeros_length, headed_length}
+use Rattle.parsing.proofs.Lists.{tail_zeros, zeros_length}
 use Rattle.parsing.proofs.Parsing.{handed_on, byte_good, refuses}
 use Rattle.reader.proofs.Rows.{atoms_filled}
 use Rattle.reader.proofs.atoms.Goals as goal
@@ -26,12 +26,9 @@ slice_bounds-many_atoms-count c = simp length-set (omega (arith, zeros_length 21
 pub slice_bounds-many_atoms-start : goal.slice_bounds-many_atoms-start
 slice_bounds-many_atoms-start c = simp length-set (omega (arith, zeros_length 21 _ c.requires.row_value))
 
-pub many_atoms-requires : goal.many_atoms-requires
-many_atoms-requires c =
-    record { arities = c.requires.arities; n_bound = (rw c.from-2.ensures (few (goal.at.many_atoms-requires c).In_ok-n), tail_zeros 20 _ _ c.requires.row_value) }
-
-pub shape_of-row : goal.shape_of-row
-shape_of-row c = headed_length c.args.row.now c.from.result c.many_atoms.new.rows c.many_atoms.auto.rows
+pub many_atoms-requires-clause-n_bound : goal.many_atoms-requires-clause-n_bound
+many_atoms-requires-clause-n_bound c =
+    (rw c.from-2.ensures (few (goal.at.many_atoms-requires-clause-n_bound c).In_ok-n), tail_zeros 20 _ _ c.requires.row_value)
 
 pub returns : goal.returns
 returns c =

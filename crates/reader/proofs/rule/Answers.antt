@@ -10,9 +10,9 @@ use Rattle.parsing.proofs.Lists.{zeros_length}
 use Rattle.parsing.proofs.Many.{many_length}
 use Rattle.parsing.proofs.Parsing.{Parses, handed_on, step_good, step_bad, byte_good, refuses, continues}
 use Rattle.parsing.proofs.Heads.{of}
-use Rattle.reader.proofs.RuleRow.{bodied, counted, headed, body_zeros, body_length, bodied_length, counted_length, head_zeros, headed_length, headed_rule, rule_good, rule_bad}
+use Rattle.reader.proofs.RuleRow.{headed, body_zeros, body_length, head_zeros, headed_rule, rule_good, rule_bad}
 use Rattle.reader.proofs.rule.Goals as goal
-use Rattle.reader.proofs.rule.Goals.{After-atoms, In_ok-body, After-from, After-from-2, After-many_disjuncts, In_ok-head}
+use Rattle.reader.proofs.rule.Goals.{After-atoms, In_ok-body, After-from-2, In_ok-head}
 
 -- what the places of the code have: the width of the body's part of the row, the body, the count, and then the whole row and the head
 
@@ -25,8 +25,8 @@ body c = step_good atoms_set _ _ _ c.in_ok-body.ensures.answer
 pub slice_bounds-atoms-end : goal.slice_bounds-atoms-end
 slice_bounds-atoms-end c = omega (arith, zeros_length 106 _ c.requires.row_value)
 
-pub atoms-requires : goal.atoms-requires
-atoms-requires c = record { arities = c.requires.arities; row_value = body_zeros _ c.requires.row_value }
+pub atoms-requires-clause-row_value : goal.atoms-requires-clause-row_value
+atoms-requires-clause-row_value c = body_zeros _ c.requires.row_value
 
 pub returns-in_err-body : goal.returns-in_err-body
 unfolding rule
@@ -38,37 +38,14 @@ returns-in_err-n c =
     rw (handed_on c.from_residual-in_err-n.ensures.1)
     (continues _ _ _ _ _ _ _ _ (body (goal.at.returns-in_err-n c).In_ok-body).parse (refuses _ _ _ _ _ _ (sym c.in_err-n.ensures)))
 
-bodied_wide : (c : After-atoms) → length (bodied c.args.row.now c.atoms.new.row) ≡ 106
-bodied_wide c = bodied_length c.args.row.now c.requires.row_value c.atoms.new.row 0 (left_length c)
-
-counted_wide : (c : After-from) → length (counted c.args.row.now c.atoms.new.row c.from.result) ≡ 106
-counted_wide c = counted_length c.args.row.now c.requires.row_value c.atoms.new.row _ (left_length (goal.at.After-from c).After-atoms)
-
-pub bounds-row-0 : goal.bounds-row-0
-bounds-row-0 c = omega (arith, bodied_wide (goal.at.bounds-row-0 c).After-atoms)
-
-pub slice_bounds-many_disjuncts-count : goal.slice_bounds-many_disjuncts-count
-slice_bounds-many_disjuncts-count c = omega (arith, counted_wide (goal.at.slice_bounds-many_disjuncts-count c).After-from)
-
-pub slice_bounds-many_disjuncts-start : goal.slice_bounds-many_disjuncts-start
-slice_bounds-many_disjuncts-start c = omega (arith, counted_wide (goal.at.slice_bounds-many_disjuncts-start c).After-from)
-
 -- the count, as the loop has it
 count : (c : After-from-2) → byte c.args.bytes.now 1 4 6 c.in_ok-body.body.next ≡ good c.from-2.result c.in_ok-n.n.next
 count c = rw c.from-2.ensures (sym c.in_ok-n.ensures)
 
-pub many_disjuncts-requires : goal.many_disjuncts-requires
-many_disjuncts-requires c =
-    let p = goal.at.many_disjuncts-requires c in
-    record { arities = c.requires.arities; n_bound = ((byte_good _ _ _ _ _ _ _ (count p.After-from-2)).most, head_zeros _ c.requires.row_value c.atoms.new.row _ (left_length p.After-atoms)) }
-
-whole_length : (c : After-many_disjuncts) → length (headed c.args.row.now c.atoms.new.row c.from.result c.many_disjuncts.new.rows) ≡ length c.args.row.now
-whole_length c =
-    headed_length c.args.row.now c.requires.row_value c.atoms.new.row _ (left_length (goal.at.After-many_disjuncts c).After-atoms) c.many_disjuncts.new.rows c.many_disjuncts.auto.rows
-    ∙ sym (zeros_length 106 _ c.requires.row_value)
-
-pub shape_of-row-in_err-head : goal.shape_of-row-in_err-head
-shape_of-row-in_err-head c = whole_length (goal.at.shape_of-row-in_err-head c).After-many_disjuncts
+pub many_disjuncts-requires-clause-n_bound : goal.many_disjuncts-requires-clause-n_bound
+many_disjuncts-requires-clause-n_bound c =
+    let p = goal.at.many_disjuncts-requires-clause-n_bound c in
+    ((byte_good _ _ _ _ _ _ _ (count p.After-from-2)).most, head_zeros _ c.requires.row_value c.atoms.new.row _ (left_length p.After-atoms))
 
 pub returns-in_err-head : goal.returns-in_err-head
 unfolding rule
@@ -92,17 +69,11 @@ stored c =
     ((c.in_ok-head.ensures b.result (sym b.kept)).stored _ _ (head c).parse)
     (many_length _ _ _ _ _ (head c).parse ∙ c.from-2.ensures ∙ sym c.from.ensures)
 
-pub shape_of-row-in-Some : goal.shape_of-row-in-Some
-shape_of-row-in-Some c = whole_length (goal.at.shape_of-row-in-Some c).After-many_disjuncts
-
 pub returns-in-Some : goal.returns-in-Some
 returns-in-Some c =
     let p = goal.at.returns-in-Some c in
     let h = head p.In_ok-head in
     rule_bad _ _ _ _ _ _ _ _ _ _ (body p.In_ok-body).parse (count p.After-from-2) h.parse _ (h.kept ∙ c.in-Some.is)
-
-pub shape_of-row-in-None : goal.shape_of-row-in-None
-shape_of-row-in-None c = whole_length (goal.at.shape_of-row-in-None c).After-many_disjuncts
 
 pub returns-in-None : goal.returns-in-None
 returns-in-None c =

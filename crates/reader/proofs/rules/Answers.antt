@@ -4,7 +4,7 @@ use Prim.Native.Nat.{◌≤◌}
 use native.Mathlib.Omega.{arith}
 use lib.ListN.{length-set}
 use Rattle.parsing.specs.Step.{parsed_rules}
-use Rattle.parsing.proofs.Lists.{tail_zeros, zeros_length, headed_length}
+use Rattle.parsing.proofs.Lists.{tail_zeros, zeros_length}
 use Rattle.parsing.proofs.Parsing.{handed_on, byte_good, refuses}
 use Rattle.reader.proofs.RuleRow.{rules_filled}
 use Rattle.reader.proofs.rules.Goals as goal
@@ -26,12 +26,9 @@ slice_bounds-many_rules-count c = simp length-set (omega (arith, zeros_length 67
 pub slice_bounds-many_rules-start : goal.slice_bounds-many_rules-start
 slice_bounds-many_rules-start c = simp length-set (omega (arith, zeros_length 6785 _ c.requires.row_value))
 
-pub many_rules-requires : goal.many_rules-requires
-many_rules-requires c =
-    record { arities = c.requires.arities; n_le_rule_limit = (rw c.from-2.ensures (few (goal.at.many_rules-requires c).In_ok-n), tail_zeros 6784 _ _ c.requires.row_value) }
-
-pub shape_of-row : goal.shape_of-row
-shape_of-row c = headed_length c.args.row.now c.from.result c.many_rules.new.rows c.many_rules.auto.rows
+pub many_rules-requires-clause-n_le_rule_limit : goal.many_rules-requires-clause-n_le_rule_limit
+many_rules-requires-clause-n_le_rule_limit c =
+    (rw c.from-2.ensures (few (goal.at.many_rules-requires-clause-n_le_rule_limit c).In_ok-n), tail_zeros 6784 _ _ c.requires.row_value)
 
 pub returns : goal.returns
 returns c =
