@@ -1,10 +1,10 @@
 -- The contracts of the converters. Assumes nothing.
-use Rattle.std.specs.Prelude.{◌≡◌, List, ℕ, ◌≤◌}
+use Rattle.std.specs.Prelude.{◌≡◌, List, ℕ, ◌≤◌, Result}
 use Rattle.model.specs.Limits.{last_version}
 use Rattle.model.specs.Format.{good, bad, read}
 use Rattle.model.specs.Form.{refusal, encoded, Writing, writing}
 use Rattle.reader.specs.Transfer.{transfer_of}
-use Rattle.reader.specs.declared.Transfer.{Transfer}
+use Rattle.refusal.specs.declared.Refused.{Refused}
 use Rattle.converter_model.specs.Converter.{versioned, converting}
 
 -- a version that there is
@@ -20,9 +20,9 @@ rewriting version bytes out =
       | good b i ↦ writing (encoded (versioned version b)) out
     ]
 
-abbrev pub Rewrites : ℕ → List ℕ → List ℕ → Transfer → List ℕ → Type 0
+abbrev pub Rewrites : ℕ → List ℕ → List ℕ → Result ℕ Refused → List ℕ → Type 0
 Rewrites version bytes out₀ r out = rewriting version bytes out₀ ≡ record { answer = transfer_of r; bytes = out }
 
 -- what a converter answers and leaves, given bytes and an output
-abbrev pub Converts : ℕ → ℕ → List ℕ → List ℕ → Transfer → List ℕ → Type 0
+abbrev pub Converts : ℕ → ℕ → List ℕ → List ℕ → Result ℕ Refused → List ℕ → Type 0
 Converts from to bytes out₀ r out = converting from to bytes out₀ ≡ record { answer = transfer_of r; bytes = out }

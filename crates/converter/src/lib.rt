@@ -3,13 +3,14 @@
 #![tactic(auto)]
 
 ghost use Rattle.std.specs.Prelude.{◌≡◌};
-ghost use Rattle.parsing.specs.Step.{wide_step_of};
+ghost use Rattle.parsing.specs.Step.{parsed_of};
 ghost use Rattle.converter_model.specs.Converter as model;
 ghost use Rattle.converter.specs.Contract.{Rewrites, Known, Converts};
 
 use form::layout::{LENGTH, VERSION};
-use parsing::{Step, WideStep, byte, number};
+use parsing::{Step, byte, number};
 use reader::Transfer;
+use refusal::{Refusal, Refused};
 
 // Room for the longest rule set, which an output has to have.
 const BYTES_LIMIT: usize = 9096;
@@ -18,13 +19,11 @@ const BYTES_LIMIT: usize = 9096;
 const NARROW_LIMIT: u16 = 64;
 
 // The version's byte, and a count of predicates that version 1 has too.
-fn opening(bytes: &[u8], version: u8) -> WideStep
-    ensures { result ≡ wide_step_of (model.opening version bytes.now) }
+fn opening(bytes: &[u8], version: u8) -> Step<u16>
+    ensures { parsed_of result ≡ model.opening version bytes.now }
 {
-    match byte(bytes, version, version, 3, 4) {
-        Step::Good(_, i) => number(bytes, version, 1, NARROW_LIMIT, 4, i),
-        Step::Bad(refusal, place) => WideStep::Bad(refusal, place),
-    }
+    let i = byte(bytes, version, version, Refusal::Version, 4)?.next;
+    number(bytes, version, 1, NARROW_LIMIT, Refusal::Predicates, i)
 }
 
 // The rule set of these bytes, written in another version.
@@ -32,13 +31,9 @@ fn rewrite(bytes: &[u8], version: u8, out: &mut [u8]) -> Transfer
     ensures { Rewrites version bytes.now out.old result out.new }
 {
     let mut form = [0u16; LENGTH];
-    match reader::read_afresh(bytes, &mut form[..]) {
-        Transfer::Done(_) => {
-            form[VERSION] = version as u16;
-            writer::write(&form[..], out)
-        }
-        Transfer::Refusal(refusal, place) => Transfer::Refusal(refusal, place),
-    }
+    reader::read_afresh(bytes, &mut form[..])?;
+    form[VERSION] = u16::from(version);
+    writer::write(&form[..], out)
 }
 
 // From one version to another: after every refusal the output is as it was.
@@ -47,15 +42,13 @@ fn convert(bytes: &[u8], from: u8, to: u8, out: &mut [u8]) -> Transfer
     ensures { Converts from to bytes.now out.old result out.new }
 {
     if out.len() < BYTES_LIMIT {
-        return Transfer::Refusal(1, 0);
+        return Err(Refused { refusal: Refusal::ShortList, place: 0 });
     }
     if !reader::is_whole(bytes) {
-        return Transfer::Refusal(2, 0);
+        return Err(Refused { refusal: Refusal::Length, place: 0 });
     }
-    match opening(bytes, from) {
-        WideStep::Good(_, _) => rewrite(bytes, to, out),
-        WideStep::Bad(refusal, place) => Transfer::Refusal(refusal, place),
-    }
+    opening(bytes, from)?;
+    rewrite(bytes, to, out)
 }
 
 // The bytes of a rule set of version 1 in version 2.

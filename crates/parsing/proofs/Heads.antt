@@ -2,7 +2,6 @@
 -- Assumes nothing.
 use mathlib.Core.Path.{◌≡◌, refl, sym, ap, ◌∙◌}
 use mathlib.Core.Bool.{Bool, true, false, ◌&&◌, ◌||◌, not, or-false}
-use mathlib.Core.Logic.{◌⊎◌, inl, inr}
 use mathlib.Core.List.{List, [], ◌∷◌, ◌++◌, append-nil}
 use Prim.Native.Nat.{ℕ, ◌-◌, ◌≤◌, ◌<◌}
 use native.Mathlib.Decide.{dec_lt}
@@ -13,12 +12,17 @@ use borrow.Author.Tests.{eq-eqb, ne_eqb, not-true}
 use Rattle.model.specs.Lists.{any, member, collect}
 use Rattle.model.specs.Rules.{Atom, Rule, variables_of, in_body, existential, repeated, detached}
 use Rattle.model.specs.Format.{Parsed, good, bad, sound}
-use Rattle.laws.proofs.Bools.{case, not_both, and_true, true_and, both_ways}
+use Rattle.std.proofs.lemmas.Option.{none-some}
+use Rattle.laws.proofs.Bools.{not_both, and_true, true_and, both_ways}
 use Rattle.laws.proofs.Lists.{any_mem, mem_any, member_mem, mem_member, any_append, collect_append}
 use Rattle.laws.proofs.Rules.{in_body_small, in_body_member, existential_mem, existential_small, mem_existential}
 use Rattle.form_variables.specs.Sets.{has, set_of}
 use Rattle.parsing.specs.Step.{atom_set, atoms_set}
-use Rattle.parsing.specs.Heads.{lacking, others, fault_by, fault_of, fault}
+use Rattle.core.specs.declared.option.Option.TheVariants.{Some, None}
+use Rattle.refusal.specs.declared.Refusal.{Refusal}
+use Rattle.refusal.specs.declared.Refusal.TheVariants.{Repeated, Detached}
+use Rattle.refusal.specs.Numbers.{number_of}
+use Rattle.parsing.specs.Heads.{others, fault_by, fault_of, fault}
 use Rattle.parsing.specs.declared.faults.Disjuncts.{Disjuncts}
 use Rattle.form_variables.proofs.Sets.{has_or, has_and, has_zero, has_set_of, empty_is, has_beyond, has_complement, set_of_append}
 
@@ -43,14 +47,6 @@ or_empty x y = go (dec_lt 0 x) (dec_lt 0 y)
         let e : bit_or x y ≡ 0 = omega (arith, or_add_and x y) in
         let f : x ≡ 0 = omega arith in
         eq-eqb (bit_or x y) 0 e ∙ sym (ap (λ (b : Bool). b && eqb y 0) (eq-eqb x 0 f) ∙ eq-eqb y 0 (omega arith))
-
-pub lacking_empty : (x : ℕ) → eqb (lacking x) 0 ≡ not (eqb x 0)
-unfolding lacking
-lacking_empty x = go (case (eqb x 0))
-  where
-    go : (eqb x 0 ≡ true) ⊎ (eqb x 0 ≡ false) → eqb (lacking x) 0 ≡ not (eqb x 0)
-    go (inl e) = rw (e, lacking)
-    go (inr e) = rw (e, lacking)
 
 -- the set of one atom more
 pub atoms_set_more : (s v : ℕ) (a : Atom) → atom_set a ≡ v → (as' : List Atom) → atoms_set as' ≡ s → atoms_set (as' ++ (a ∷ [])) ≡ bit_or s v
@@ -163,12 +159,12 @@ module _ (r : Rule) where
 
 -- what a loop over the disjuncts keeps: their existential variables, those that stand in two of them, and whether one is detached
 
-pub record Seen (r : Rule) (ds : List (List Atom)) (seen again apart : ℕ) : Type 0 where
+pub record Seen (r : Rule) (ds : List (List Atom)) (seen again : ℕ) (apart : Bool) : Type 0 where
   pub seen_is : (v : ℕ) → has seen v ≡ any (λ (d : List Atom). member v (existential r d)) ds
   pub again_is : eqb again 0 ≡ not (repeated r ds)
-  pub apart_is : eqb apart 0 ≡ not (any (detached r) ds)
+  pub apart_is : apart ≡ any (detached r) ds
 
-pub seen_none : (r : Rule) → Seen r [] 0 0 0
+pub seen_none : (r : Rule) → Seen r [] 0 0 false
 unfolding any repeated
 seen_none r = record { seen_is = has_zero; again_is = refl; apart_is = refl }
 
@@ -194,8 +190,8 @@ module _ (r : Rule) (body : ℕ) (b : body ≡ atoms_set r.body) (small : body <
       let (v, m, i) = any_mem (elsewhere r ds) (existential r d) e in
       (v, has_and seen new v ∙ true_and (has seen v) (has new v) (f v ∙ i) (has_existential r body b d set s small v ∙ mem_member m)))
 
-  pub seen_more : (ds : List (List Atom)) (seen again apart : ℕ) → Seen r ds seen again apart
-      → Seen r (ds ++ (d ∷ [])) (bit_or seen new) (bit_or again (bit_and seen new)) (bit_or apart (lacking (bit_and set body)))
+  pub seen_more : (ds : List (List Atom)) (seen again : ℕ) (apart : Bool) → Seen r ds seen again apart
+      → Seen r (ds ++ (d ∷ [])) (bit_or seen new) (bit_or again (bit_and seen new)) (apart || eqb (bit_and set body) 0)
   seen_more ds seen again apart h =
       record {
         seen_is =
@@ -207,9 +203,7 @@ module _ (r : Rule) (body : ℕ) (b : body ≡ atoms_set r.body) (small : body <
             ∙ rw (h.again_is, shared_empty ds seen h.seen_is, repeated_snoc r ds d)
             (not_or (repeated r ds) (any (elsewhere r ds) (existential r d)));
         apart_is =
-            or_empty apart (lacking (bit_and set body))
-            ∙ rw (h.apart_is, lacking_empty (bit_and set body), meets_empty r body b d set s small, any_snoc (detached r) ds d)
-            (not_or (any (detached r) ds) (detached r d));
+            rw (h.apart_is, meets_empty r body b d set s small, any_snoc (detached r) ds d);
       }
 
 -- the fault of the whole rule depends on the rule's body and the disjuncts alone
@@ -230,17 +224,17 @@ detached_of b hs hs' ds = refl
 abbrev pub Keeps : ℕ → List (List Atom) → Disjuncts → Type 0
 Keeps body ds s = (b : List Atom) → body ≡ atoms_set b → Seen (of b []) ds s.seen s.again s.apart
 
-pub keeps_none : (body : ℕ) (s : Disjuncts) → (s.seen ≡ 0) × (s.again ≡ 0) × (s.apart ≡ 0) → Keeps body [] s
+pub keeps_none : (body : ℕ) (s : Disjuncts) → (s.seen ≡ 0) × (s.again ≡ 0) × (s.apart ≡ false) → Keeps body [] s
 keeps_none body s (e, f, g) b h = rw (e, f, g) (seen_none (of b []))
 
 pub keeps_more : (body set : ℕ) (s s' : Disjuncts) → body < 256
-    → (s'.seen ≡ bit_or s.seen (others set body)) × (s'.again ≡ bit_or s.again (bit_and s.seen (others set body))) × (s'.apart ≡ bit_or s.apart (lacking (bit_and set body)))
+    → (s'.seen ≡ bit_or s.seen (others set body)) × (s'.again ≡ bit_or s.again (bit_and s.seen (others set body))) × (s'.apart ≡ (s.apart || eqb (bit_and set body) 0))
     → (d : List Atom) → atoms_set d ≡ set → (ds : List (List Atom)) → Keeps body ds s → Keeps body (ds ++ (d ∷ [])) s'
 keeps_more body set s s' h (p, q, r) d e ds k b f = rw (p, q, r) (seen_more (of b []) body f h d set e ds s.seen s.again s.apart (k b f))
 
-pub fault_is : (b : List Atom) (ds : List (List Atom)) (seen again apart : ℕ) → Seen (of b []) ds seen again apart → fault (of b ds) ≡ fault_of again apart
+pub fault_is : (b : List Atom) (ds : List (List Atom)) (seen again : ℕ) (apart : Bool) → Seen (of b []) ds seen again apart → fault (of b ds) ≡ fault_of again apart
 unfolding fault
-fault_is b ds seen again apart h = rw (repeated_of b ds [] ds, detached_of b ds [] ds, h.again_is, h.apart_is, not_not (repeated (of b []) ds), not_not)
+fault_is b ds seen again apart h = rw (repeated_of b ds [] ds, detached_of b ds [] ds, h.again_is, h.apart_is, not_not (repeated (of b []) ds))
 
 -- 8 and then 9, by the fault
 
@@ -256,20 +250,20 @@ module _ (r : Rule) (start i : ℕ) where
   sound_by_is false true e f = rw (e, f, sound)
   sound_by_is false false e f = rw (e, f, sound)
 
-  by_good : (again apart : Bool) → fault_by again apart ≡ 0 → sound_by again apart ≡ good r i
-  by_good true apart e = absurd (omega arith)
-  by_good false true e = absurd (omega arith)
+  by_good : (again apart : Bool) → fault_by again apart ≡ None → sound_by again apart ≡ good r i
+  by_good true apart e = absurd (none-some _ (sym e))
+  by_good false true e = absurd (none-some _ (sym e))
   by_good false false e = refl
 
-  by_bad : (again apart : Bool) → (fault_by again apart ≡ 0 → ⊥) → sound_by again apart ≡ bad (fault_by again apart) start
-  by_bad true apart e = refl
-  by_bad false true e = refl
-  by_bad false false e = absurd (e refl)
+  by_bad : (again apart : Bool) (x : Refusal) → fault_by again apart ≡ Some x → sound_by again apart ≡ bad (number_of x) start
+  by_bad true apart x e = let f : Repeated ≡ x = cc in ap (λ (y : Refusal). bad (number_of y) start) f
+  by_bad false true x e = let f : Detached ≡ x = cc in ap (λ (y : Refusal). bad (number_of y) start) f
+  by_bad false false x e = absurd (none-some x e)
 
-  pub sound_good : fault r ≡ 0 → sound r start i ≡ good r i
+  pub sound_good : fault r ≡ None → sound r start i ≡ good r i
   unfolding fault
   sound_good e = sound_by_is _ _ refl refl ∙ by_good (repeated r r.head) (any (detached r) r.head) e
 
-  pub sound_bad : (fault r ≡ 0 → ⊥) → sound r start i ≡ bad (fault r) start
+  pub sound_bad : (x : Refusal) → fault r ≡ Some x → sound r start i ≡ bad (number_of x) start
   unfolding fault
-  sound_bad e = sound_by_is _ _ refl refl ∙ by_bad (repeated r r.head) (any (detached r) r.head) e
+  sound_bad x e = sound_by_is _ _ refl refl ∙ by_bad (repeated r r.head) (any (detached r) r.head) x e

@@ -3,9 +3,8 @@ use mathlib.Core.Path.{◌≡◌, refl, sym, ap, ◌∙◌}
 use mathlib.Core.List.{List, [], ◌∷◌, ◌++◌, append-nil}
 use Prim.Native.Nat.{ℕ, zero, suc, ◌+◌, ◌-◌, ◌≤◌, ◌<◌}
 use native.Mathlib.Omega.{arith}
-use native.Mathlib.Numerals.{add-one}
-use lib.ListN.{length, get_or, take, drop, set, length-replicate, length-set}
-use lib.Seq.{set_split, drop-drop, drop-cons, take-suc, take-length, append_snoc, set_at, length-take-le}
+use lib.ListN.{length, take, drop, set, length-replicate, length-set}
+use lib.Seq.{set_split, drop-drop}
 use borrow.Rule.Slice.PartMut.{same_len_mid}
 use Rattle.model.specs.Lists.{collect, padded}
 use Rattle.parsing.specs.Step.{zeros}
@@ -84,15 +83,3 @@ module _ (m : ℕ) (row : List ℕ) (v : ℕ) (z : row ≡ zeros (suc m)) where
 pub headed_length : (row : List ℕ) (v : ℕ) (left : List ℕ) → length left ≡ length (take (length (set row 0 v) - 1) (drop 1 (set row 0 v)))
     → length (take 1 (set row 0 v) ++ (left ++ drop (length (set row 0 v) - 1) (drop 1 (set row 0 v)))) ≡ length row
 headed_length row v left e = same_len_mid 1 (length (set row 0 v) - 1) (set row 0 v) left e ∙ length-set row 0 v
-
--- the front of a list, copied number by number
-pub copy_more : (from free to : List ℕ) (k : ℕ) → k < length from → k < length free → to ≡ take k from ++ drop k free
-    → set to k (get_or from k 0) ≡ take (k + 1) from ++ drop (k + 1) free
-copy_more from free to k h l e =
-    let n : length (take k from) ≡ k = length-take-le k from (omega arith) in
-    rw (e, drop-cons free k 0 l, set_at (take k from) (get_or free k 0) (drop (suc k) free) (get_or from k 0) k n, add-one, take-suc from k 0 h, append_snoc)
-
-pub copied : (from free to : List ℕ) (k : ℕ) → k ≤ length from → length from ≤ k → to ≡ take k from ++ drop k free → to ≡ from ++ drop (length from) free
-copied from free to k h i e =
-    let n : k ≡ length from = omega arith in
-    rw n at e ∙ ap (λ (xs : List ℕ). xs ++ drop (length from) free) (take-length from)

@@ -3,7 +3,7 @@
 use mathlib.Core.Path.{◌≡◌, refl, sym, ap, ◌∙◌, subst}
 use mathlib.Core.List.{List, [], ◌∷◌, ◌++◌, append_assoc, append-nil}
 use Prim.Native.Nat.{ℕ, zero, suc, ◌+◌, ◌-◌, ◌*◌, ◌≤◌, ◌<◌}
-use native.Mathlib.Nat.{mul-add, mul-one}
+use native.Mathlib.Nat.{add-mul, one-mul}
 use native.Mathlib.Omega.{arith}
 use lib.ListN.{length, get_or, take, drop, set, length-append, length-drop}
 use lib.Seq.{take_at, drop_at, drop-drop, length-take-le}
@@ -11,11 +11,13 @@ use borrow.Rule.Slice.PartMut.{same_len_mid}
 use Rattle.model.specs.Lists.{collect, padded}
 use Rattle.model.specs.Format.{Parsed, good, bad, and_then, many}
 use Rattle.laws.proofs.Lists.{collect_append}
-use Rattle.parsing.specs.Step.{step_of, zeros, Filled}
-use Rattle.parsing.specs.declared.Step.{Step}
-use Rattle.parsing.specs.declared.Step.TheVariants.{Good, Bad}
+use Rattle.core.specs.declared.result.Result.TheVariants.{Ok, Err}
+use Rattle.refusal.specs.declared.Refused.{Refused}
+use Rattle.refusal.specs.Numbers.{number_of}
+use Rattle.parsing.specs.Step.{kept_of, zeros, Filled}
+use Rattle.parsing.specs.declared.Parsed.{Parsed as Read}
 use Rattle.parsing.proofs.Lists.{zeros_length, drop_zeros, take_zeros, padded_zeros, single, set_part, collect_single}
-use Rattle.parsing.proofs.Parsing.{bad_is_not_good, step_good, step_bad}
+use Rattle.parsing.proofs.Parsing.{bad_is_not_good, step_good, step_bad, filled_bad}
 
 module _ {A : Type 0} where
   abbrev after : List A → Parsed (List A) → Parsed (List A)
@@ -88,9 +90,9 @@ module _ {A S : Type 0} (p : ℕ → Parsed A) (Kept : List A → S → Type 0) 
               ∙ rw (now.filled, take_at (collect row d) (drop o free) o now.reach, drop_at (collect row d) (drop o free) o now.reach, drop-drop, joined, append_assoc);
         }
 
-    pub finished : (keep : List A → ℕ) (v m : ℕ) → ((done : List A) → Kept done s → keep done ≡ v) → n ≤ k → free ≡ zeros m
-        → Filled keep (λ as'. padded m (collect row as')) (many n p i) (Good v at) rows
-    unfolding step_of
+    pub finished : {V : Type 0} (keep : List A → V) (v : V) (m : ℕ) → ((done : List A) → Kept done s → keep done ≡ v) → n ≤ k → free ≡ zeros m
+        → Filled keep (λ as'. padded m (collect row as')) (many n p i) (Ok (record { value = v; next = at })) rows
+    unfolding kept_of
     finished keep v m f h z =
         record {
           answer = rw (ended h, f now.done now.kept);
@@ -100,14 +102,12 @@ module _ {A S : Type 0} (p : ℕ → Parsed A) (Kept : List A → S → Type 0) 
               rw (now.filled, z, drop_zeros, padded_zeros, ← now.reach, same);
         }
 
-    pub failed : (keep : List A → ℕ) (full : List A → List ℕ) (m q : ℕ) (left : List ℕ) → k < n → p at ≡ bad m q → Filled keep full (many n p i) (Bad m q) left
-    unfolding step_of
-    failed keep full m q left h e =
-        let b : many n p i ≡ bad m q = refused m q h e in
-        record { answer = rw b; stored = λ as' j g. bad_is_not_good (many n p i) m q as' j b g }
+    pub failed : {V : Type 0} (keep : List A → V) (full : List A → List ℕ) (left : List ℕ) (e : Refused) → k < n → p at ≡ bad (number_of e.refusal) e.place
+        → Filled keep full (many n p i) (Err e) left
+    failed keep full left e h f = filled_bad keep full (many n p i) left e (refused _ _ h f)
 
 -- nothing is kept
-abbrev pub Anything : {A : Type 0} → List A → ℕ → Type 0
+abbrev pub Anything : {A : Type 0} → List A → Unit {0} → Type 0
 Anything done s = Unit {0}
 
 -- numbers, one to a place
@@ -117,8 +117,8 @@ module _ {S : Type 0} (p : ℕ → Parsed ℕ) (Kept : List ℕ → S → Type 0
       → Progress p Kept single n i free (k + 1) next (k + 1) s' (set rows k v)
   more_single v next s' h l e step = more p Kept single n i free k at k s rows now v next 1 s' (set rows k v) h e refl step (set_part rows k v l)
 
-  pub finished_single : (keep : List ℕ → ℕ) (v m : ℕ) → ((done : List ℕ) → Kept done s → keep done ≡ v) → n ≤ k → free ≡ zeros m
-      → Filled keep (padded m) (many n p i) (Good v at) rows
+  pub finished_single : {V : Type 0} (keep : List ℕ → V) (v : V) (m : ℕ) → ((done : List ℕ) → Kept done s → keep done ≡ v) → n ≤ k → free ≡ zeros m
+      → Filled keep (padded m) (many n p i) (Ok (record { value = v; next = at })) rows
   finished_single keep v m f h z =
       let d = finished p Kept single n i free k at k s rows now keep v m f h z in
       record { answer = d.answer; stored = λ as' j e. d.stored as' j e ∙ ap (padded m) (collect_single as') }
@@ -138,24 +138,26 @@ many_length {A} (suc n) p i as' j e = go (p i) (λ k bs l. many_length n p k bs 
     go (good a k) f g = last a (many n p k) (f k) g
     go (bad m q) f g = bad_is_not_good (bad m q) m q as' j refl g
 
--- rows of w numbers in m places, each filled by the parser of its value in a part of the list: k of n are filled, the next begins at `from`
-pub record Rows {A S : Type 0} (p : ℕ → Parsed A) (Kept : List A → S → Type 0) (row : A → List ℕ) (w m n i : ℕ) (free : List ℕ) (k at from : ℕ) (s : S) (rows : List ℕ) : Type 0 where
-  pub within : k ≤ n
-  pub place : from ≡ w * k
+-- rows of w numbers in m places, each filled by the parser of its value in a part of the list: k of n are filled
+pub record Rows {A S : Type 0} (p : ℕ → Parsed A) (Kept : List A → S → Type 0) (row : A → List ℕ) (w m n i : ℕ) (free : List ℕ) (k at : ℕ) (s : S) (rows : List ℕ) : Type 0 where
   pub size : length rows ≡ m
-  pub progress : Progress p Kept row n i free k at from s rows
+  pub progress : Progress p Kept row n i free k at (k * w) s rows
 
 pub rows_begun : {A S : Type 0} {p : ℕ → Parsed A} {Kept : List A → S → Type 0} {row : A → List ℕ} {w m n i : ℕ} {free : List ℕ} {s : S} → free ≡ zeros m → Kept [] s
-    → Rows p Kept row w m n i free 0 i 0 s free
-rows_begun {p = p} {Kept = Kept} {row = row} {m = m} {n = n} {i = i} {free = free} {s = s} z h =
-    record { within = omega arith; place = omega arith; size = zeros_length m free z; progress = begun p Kept row n i free s h }
+    → Rows p Kept row w m n i free 0 i s free
+rows_begun {p = p} {Kept = Kept} {row = row} {w = w} {m = m} {n = n} {i = i} {free = free} {s = s} z h =
+    let none : 0 ≡ 0 * w = omega arith in
+    record { size = zeros_length m free z; progress = subst (λ (o : ℕ). Progress p Kept row n i free 0 i o s free) none (begun p Kept row n i free s h) }
 
 -- the list once a row that was lent is given back
 abbrev pub given_back : ℕ → ℕ → List ℕ → List ℕ → List ℕ
 given_back w from rows left = take from rows ++ (left ++ drop ((from + w) - from) (drop from rows))
 
-module _ {A S : Type 0} {p : ℕ → Parsed A} {Kept : List A → S → Type 0} {row : A → List ℕ} {w m n i : ℕ} {free : List ℕ} {k at from : ℕ} {s : S} {rows : List ℕ}
-    (now : Rows p Kept row w m n i free k at from s rows) (z : free ≡ zeros m) where
+module _ {A S : Type 0} {p : ℕ → Parsed A} {Kept : List A → S → Type 0} {row : A → List ℕ} {w m n i : ℕ} {free : List ℕ} {k at : ℕ} {s : S} {rows : List ℕ}
+    (now : Rows p Kept row w m n i free k at s rows) (z : free ≡ zeros m) where
+  abbrev from : ℕ
+  from = k * w
+
   -- the next row is lent
   pub rows_lent : from + w ≤ m → take ((from + w) - from) (drop from rows) ≡ zeros w
   rows_lent h = let e : (from + w) - from ≡ w = omega arith in rw e (unfilled p Kept row n i free k at from s rows now.progress m w z h)
@@ -167,33 +169,34 @@ module _ {A S : Type 0} {p : ℕ → Parsed A} {Kept : List A → S → Type 0} 
     pub rows_length : length (given_back w from rows left) ≡ length free
     rows_length = back_size ∙ sym (zeros_length m free z)
 
-    pub rows_more : (keep : A → ℕ) (v next : ℕ) (s' : S) (r : Step) → k < n → from + w ≤ m → r ≡ Good v next → Filled keep row (p at) r left
-        → ((a : A) → keep a ≡ v → (done : List A) → Kept done s → Kept (done ++ (a ∷ [])) s') → Rows p Kept row w m n i free (k + 1) next (from + w) s' (given_back w from rows left)
-    rows_more keep v next s' r h l e f step =
-        let a = step_good keep (p at) v next (sym e ∙ f.answer) in
+    pub rows_more : {V : Type 0} (keep : A → V) (x : Read V) (s' : S) → k < n → from + w ≤ m → Filled keep row (p at) (Ok x) left
+        → ((a : A) → keep a ≡ x.value → (done : List A) → Kept done s → Kept (done ++ (a ∷ [])) s')
+        → Rows p Kept row w m n i free (k + 1) x.next s' (given_back w from rows left)
+    rows_more keep x s' h l f step =
+        let a = step_good keep (p at) x.value x.next f.answer in
         let wide : (from + w) - from ≡ w = omega arith in
-        let same : left ≡ row a.result = f.stored a.result next a.parse in
+        let same : left ≡ row a.result = f.stored a.result x.next a.parse in
         let fits : w ≤ length rows - from = omega (arith, now.size) in
         let size : length (row a.result) ≡ w = ap length (sym same) ∙ g ∙ rw (wide, length-take-le w (drop from rows) (rw length-drop fits)) in
+        let next : from + w ≡ (k + 1) * w = omega (arith, add-mul k 1 w, one-mul w) in
         record {
-          within = omega arith;
-          place = omega (arith, now.place, mul-add w k 1, mul-one w);
           size = back_size;
           progress =
-              more p Kept row n i free k at from s rows now.progress a.result next w s' _ h a.parse size (λ done m. step a.result a.kept done m)
-              (rw (wide, same));
+              subst (λ (o : ℕ). Progress p Kept row n i free (k + 1) x.next o s' (given_back w from rows left)) next
+              (more p Kept row n i free k at from s rows now.progress a.result x.next w s' _ h a.parse size (λ done m. step a.result a.kept done m)
+              (rw (wide, same)));
         }
 
-  pub rows_failed : (keep : A → ℕ) (whole : List A → ℕ) (full : List A → List ℕ) (b q : ℕ) (r : Step) (left left' : List ℕ) → k < n → r ≡ Bad b q
-      → Filled keep row (p at) r left → Filled whole full (many n p i) (Bad b q) left'
-  rows_failed keep whole full b q r left left' h e f =
-      failed p Kept row n i free k at from s rows now.progress whole full b q left' h (step_bad keep (p at) b q (sym e ∙ f.answer))
+  pub rows_failed : {V W : Type 0} (keep : A → V) (whole : List A → W) (full : List A → List ℕ) (e : Refused) (left left' : List ℕ) → k < n
+      → Filled keep row (p at) (Err e) left → Filled whole full (many n p i) (Err e) left'
+  rows_failed keep whole full e left left' h f =
+      failed p Kept row n i free k at from s rows now.progress whole full left' e h (step_bad keep (p at) _ _ f.answer)
 
   pub rows_same : length rows ≡ length free
   rows_same = now.size ∙ sym (zeros_length m free z)
 
-  pub rows_finished : (keep : List A → ℕ) (v : ℕ) → ((done : List A) → Kept done s → keep done ≡ v) → n ≤ k
-      → Filled keep (λ as'. padded m (collect row as')) (many n p i) (Good v at) rows
+  pub rows_finished : {V : Type 0} (keep : List A → V) (v : V) → ((done : List A) → Kept done s → keep done ≡ v) → n ≤ k
+      → Filled keep (λ as'. padded m (collect row as')) (many n p i) (Ok (record { value = v; next = at })) rows
   rows_finished keep v f h = finished p Kept row n i free k at from s rows now.progress keep v m f h z
 
 -- what holds of every value that the parser gives holds at each place

@@ -5,6 +5,7 @@ use mathlib.Core.Logic.{◌⊎◌, inl, inr}
 use mathlib.Core.List.{List}
 use Prim.Native.Nat.{ℕ, suc, ◌+◌, ◌*◌, ◌≤◌, ◌<◌}
 use native.Mathlib.Omega.{arith}
+use native.Mathlib.Decide.{dec_lt}
 use native.Mathlib.Numerals.{add-one}
 use lib.Dec.{ltb, leb}
 use lib.ListN.{length, get_or}
@@ -13,10 +14,8 @@ use Rattle.model.specs.Limits.{narrow_limit, predicate_limit}
 use Rattle.model.specs.Rules.{wide, most_predicates}
 use Rattle.model.specs.Format.{Parsed, good, bad, and_then, byte, number}
 use Rattle.laws.proofs.Bools.{case, and_true}
-use Rattle.parsing.specs.Step.{wide_step_of, ranged, Filled}
-use Rattle.parsing.specs.declared.Step.TheVariants.{Bad as StepBad}
-use Rattle.parsing.specs.declared.WideStep.TheVariants.{Good, Bad}
-use Rattle.parsing.proofs.Parsing.{bad_is_not_good, byte_good, filled_bad}
+use Rattle.parsing.specs.Step.{ranged}
+use Rattle.parsing.proofs.Parsing.{bad_is_not_good, byte_good, byte_within, byte_ended}
 
 module _ (n low high refusal i next : ℕ) where
   pub ranged_below : n < low → ranged n low high refusal i next ≡ bad refusal i
@@ -26,6 +25,10 @@ module _ (n low high refusal i next : ℕ) where
   pub ranged_above : low ≤ n → high < n → ranged n low high refusal i next ≡ bad refusal i
   unfolding ranged
   ranged_above h l = rw (le-leb low n h, lt-leb n high l, ranged)
+
+  pub ranged_outside : (n < low) ⊎ ((low ≤ n) × (high < n)) → ranged n low high refusal i next ≡ bad refusal i
+  ranged_outside (inl h) = ranged_below h
+  ranged_outside (inr (h, l)) = ranged_above h l
 
   pub ranged_within : low ≤ n → n ≤ high → ranged n low high refusal i next ≡ good n next
   unfolding ranged
@@ -66,6 +69,34 @@ module _ (bs : List ℕ) (low high refusal i : ℕ) where
   unfolding number ranged
   pair_ranged h = let two : i + 2 ≡ suc (suc i) = omega arith in rw (two, lt-ltb (suc i) (length bs) h, number)
 
+-- a number by its bytes, whatever they are, and then its range
+
+module _ (bs : List ℕ) (low high refusal i : ℕ) (small : (k : ℕ) → get_or bs k 0 < 256) where
+  pub byte_through : byte bs low high refusal i ≡ and_then (byte bs 0 255 refusal i) (λ v j. ranged v low high refusal i j)
+  unfolding and_then
+  byte_through = go (dec_lt i (length bs))
+    where
+      go : Dec (i < length bs) → byte bs low high refusal i ≡ and_then (byte bs 0 255 refusal i) (λ v j. ranged v low high refusal i j)
+      go (yes h) = rw (byte_within bs 0 255 refusal i h (omega arith) (omega (arith, small i))) (byte_ranged bs low high refusal i h)
+      go (no h) = rw (byte_ended bs 0 255 refusal i (omega arith)) (byte_ended bs low high refusal i (omega arith))
+
+  abbrev paired : Parsed ℕ
+  paired = and_then (byte bs 0 255 refusal i) (λ v j. and_then (byte bs 0 255 refusal j) (λ w k. ranged (v * 256 + w) low high refusal i k))
+
+  pub pair_through : number true bs low high refusal i ≡ paired
+  unfolding and_then
+  pair_through = go (dec_lt i (length bs)) (dec_lt (suc i) (length bs))
+    where
+      first : i < length bs → byte bs 0 255 refusal i ≡ good (get_or bs i 0) (i + 1)
+      first h = byte_within bs 0 255 refusal i h (omega arith) (omega (arith, small i))
+
+      go : Dec (i < length bs) → Dec (suc i < length bs) → number true bs low high refusal i ≡ paired
+      go (yes h) (yes l) =
+          let two : suc i + 1 ≡ i + 2 = omega arith in
+          rw (first h, add-one i, byte_within bs 0 255 refusal (suc i) l (omega arith) (omega (arith, small (suc i))), two) (pair_ranged bs low high refusal i l)
+      go (yes h) (no l) = rw (first h, add-one i, byte_ended bs 0 255 refusal (suc i) (omega arith)) (pair_ended bs low high refusal i (omega arith))
+      go (no h) l = rw (byte_ended bs 0 255 refusal i (omega arith)) (pair_ended bs low high refusal i (omega arith))
+
 -- a number that was taken is in its range, whichever its width
 pub record Bounded (low high v : ℕ) : Type 0 where
   pub least : low ≤ v
@@ -94,30 +125,3 @@ number_of w version bs low high refusal i e = ap (λ (x : Bool). number x bs low
 pub most_of : (w : Bool) (version : ℕ) → wide version ≡ w → elim w [ true ↦ predicate_limit | false ↦ narrow_limit ] ≡ most_predicates version
 unfolding most_predicates
 most_of w version e = rw (most_predicates, e)
-
--- the number that two bytes were found to spell
-pub pair_of : (bs : List ℕ) (i p q : ℕ) → p ≡ get_or bs i 0 → q ≡ get_or bs (i + 1) 0 → p * 256 + q ≡ get_or bs i 0 * 256 + get_or bs (suc i) 0
-pair_of bs i p q e f = rw (e, f, add-one i)
-
--- a step of a number, and the parse that it came from
-pub wide_good : (parsed : Parsed ℕ) (v i : ℕ) → Good v i ≡ wide_step_of parsed → parsed ≡ good v i
-unfolding wide_step_of
-wide_good (good a j) v i e =
-    let f : a ≡ v = cc in
-    let g : j ≡ i = cc in
-    cc
-wide_good (bad n p) v i e = absurd (let z : ◌≡◌ {A = ℕ} 0 1 = cc in omega arith)
-
-pub wide_bad : (parsed : Parsed ℕ) (n p : ℕ) → Bad n p ≡ wide_step_of parsed → parsed ≡ bad n p
-unfolding wide_step_of
-wide_bad (good a j) n p e = absurd (let z : ◌≡◌ {A = ℕ} 0 1 = cc in omega arith)
-wide_bad (bad m q) n p e =
-    let f : m ≡ n = cc in
-    let g : q ≡ p = cc in
-    cc
-
--- the refusal of a number is that of what it begins
-pub wide_refused : {B : Type 0} (keep : B → ℕ) (row : B → List ℕ) (parsed : Parsed ℕ) (then : ℕ → ℕ → Parsed B) (n p : ℕ) (left : List ℕ)
-    → Bad n p ≡ wide_step_of parsed → Filled keep row (and_then parsed then) (StepBad n p) left
-unfolding and_then
-wide_refused keep row parsed then n p left e = filled_bad keep row (and_then parsed then) n p left (rw (wide_bad parsed n p e))

@@ -1,5 +1,6 @@
--- Laws of the definitions' parsers, by cases, and what a step of the code says of a parse. Assumes nothing.
+-- Laws of the definitions' parsers, by cases, and what an answer of the code says of a parse. Assumes nothing.
 use mathlib.Core.Path.{◌≡◌, refl, sym, ap, ◌∙◌}
+use mathlib.Core.Logic.{◌⊎◌, inl, inr}
 use mathlib.Core.List.{List}
 use Prim.Native.Nat.{ℕ, ◌+◌, ◌≤◌, ◌<◌}
 use native.Mathlib.Omega.{arith}
@@ -8,9 +9,14 @@ use native.Mathlib.Decide.{dec_lt}
 use lib.ListN.{length, get_or}
 use borrow.Author.Tests.{lt-ltb, le-ltb, le-leb, lt-leb}
 use Rattle.model.specs.Format.{Parsed, good, bad, and_then, byte, variable}
-use Rattle.parsing.specs.Step.{step_of, Filled, value}
-use Rattle.parsing.specs.declared.Step.{Step}
-use Rattle.parsing.specs.declared.Step.TheVariants.{Good, Bad}
+use Rattle.std.specs.Result.{IsErrAnd}
+use Rattle.std.proofs.lemmas.Result.{err_from_is_err_and}
+use Rattle.core.specs.declared.result.Result.{Result}
+use Rattle.core.specs.declared.result.Result.TheVariants.{Ok, Err}
+use Rattle.refusal.specs.declared.Refused.{Refused}
+use Rattle.refusal.specs.Numbers.{number_of}
+use Rattle.parsing.specs.Step.{kept_of, Filled}
+use Rattle.parsing.specs.declared.Parsed.{Parsed as Read}
 
 -- `byte` by cases
 
@@ -27,37 +33,43 @@ module _ (bs : List ℕ) (low high refusal i : ℕ) where
   unfolding byte
   byte_above h l k = rw (lt-ltb i (length bs) h, le-leb low (get_or bs i 0) l, lt-leb (get_or bs i 0) high k, byte)
 
+  pub byte_outside : i < length bs → (get_or bs i 0 < low) ⊎ ((low ≤ get_or bs i 0) × (high < get_or bs i 0)) → byte bs low high refusal i ≡ bad refusal i
+  byte_outside h (inl l) = byte_below h l
+  byte_outside h (inr (l, k)) = byte_above h l k
+
   pub byte_within : i < length bs → low ≤ get_or bs i 0 → get_or bs i 0 ≤ high → byte bs low high refusal i ≡ good (get_or bs i 0) (i + 1)
   unfolding byte
   byte_within h l k = rw (add-one, lt-ltb i (length bs) h, le-leb low (get_or bs i 0) l, le-leb (get_or bs i 0) high k, byte)
 
--- A step that is good or bad, and the parse that it came from
-
--- the value of a parse whose step is good
-pub record Parses {A : Type 0} (keep : A → ℕ) (parsed : Parsed A) (v i : ℕ) : Type 0 where
+-- the value of a parse of which the code kept v
+pub record Parses {A V : Type 0} (keep : A → V) (parsed : Parsed A) (v : V) (i : ℕ) : Type 0 where
   pub result : A
   pub parse : parsed ≡ good result i
   pub kept : keep result ≡ v
 
-module _ {A : Type 0} (keep : A → ℕ) where
-  pub step_good : (parsed : Parsed A) (v i : ℕ) → Good v i ≡ step_of keep parsed → Parses keep parsed v i
-  unfolding step_of
+pub bad_is_not_good : {A : Type 0} {P : Type 0} (parsed : Parsed A) (n p : ℕ) (a : A) (j : ℕ) → parsed ≡ bad n p → parsed ≡ good a j → P
+bad_is_not_good parsed n p a j e f = absurd (let z : ◌≡◌ {A = ℕ} 0 1 = cc in omega arith)
+
+module _ {A V : Type 0} (keep : A → V) where
+  pub step_good : (parsed : Parsed A) (v : V) (i : ℕ) → good v i ≡ kept_of keep parsed → Parses keep parsed v i
+  unfolding kept_of
   step_good (good a j) v i e =
       let f : keep a ≡ v = cc in
       let g : j ≡ i = cc in
       record { result = a; parse = ap (good a) g; kept = f }
-  step_good (bad n p) v i e = absurd (let z : ◌≡◌ {A = ℕ} 0 1 = cc in omega arith)
+  step_good (bad n p) v i e = bad_is_not_good (bad n p) n p v i refl (sym e)
 
-  pub step_bad : (parsed : Parsed A) (n p : ℕ) → Bad n p ≡ step_of keep parsed → parsed ≡ bad n p
-  unfolding step_of
-  step_bad (good a j) n p e = absurd (let z : ◌≡◌ {A = ℕ} 0 1 = cc in omega arith)
+  pub step_bad : (parsed : Parsed A) (n p : ℕ) → bad n p ≡ kept_of keep parsed → parsed ≡ bad n p
+  unfolding kept_of
+  step_bad (good a j) n p e = bad_is_not_good (good (keep a) j) n p (keep a) j (sym e) refl
   step_bad (bad m q) n p e =
       let f : m ≡ n = cc in
       let g : q ≡ p = cc in
       cc
 
-pub step_value : (parsed : Parsed ℕ) (v i : ℕ) → Good v i ≡ step_of value parsed → parsed ≡ good v i
-step_value parsed v i e = let h = step_good value parsed v i e in h.parse ∙ ap (λ (x : ℕ). good x i) h.kept
+-- a `?` hands on the refusal that it met
+pub handed_on : {T : Type 0} {e : Refused} {r : Result T Refused} → IsErrAnd r (λ f. f ≡ e) → r ≡ Err e
+handed_on {r = r} h = let p = err_from_is_err_and r h in p.1 ∙ ap Err p.2
 
 -- the bounds of a byte that was read
 
@@ -66,9 +78,6 @@ pub record Within (bs : List ℕ) (low high i v j : ℕ) : Type 0 where
   pub least : low ≤ v
   pub most : v ≤ high
   pub next : j ≡ i + 1
-
-pub bad_is_not_good : {A : Type 0} {P : Type 0} (parsed : Parsed A) (n p : ℕ) (a : A) (j : ℕ) → parsed ≡ bad n p → parsed ≡ good a j → P
-bad_is_not_good parsed n p a j e f = absurd (let z : ◌≡◌ {A = ℕ} 0 1 = cc in omega arith)
 
 pub byte_good : (bs : List ℕ) (low high refusal i v j : ℕ) → byte bs low high refusal i ≡ good v j → Within bs low high i v j
 byte_good bs low high refusal i v j e = go (dec_lt i (length bs)) (dec_lt (get_or bs i 0) low) (dec_lt high (get_or bs i 0))
@@ -89,40 +98,42 @@ variable_good bs i v j e = byte_good bs 0 7 7 i v j e
 
 -- What a parser answers and leaves, by the parsers that it is made of
 
-module _ {A B : Type 0} (row : B → List ℕ) (keep : B → ℕ) (parsed : Parsed A) (then : A → ℕ → Parsed B) (r : Step) (left : List ℕ) where
-  pub refuses : (first : A → ℕ) (n p : ℕ) → r ≡ step_of first parsed → r ≡ Bad n p → Filled keep row (and_then parsed then) r left
-  unfolding and_then step_of
-  refuses first n p e f =
-      let b : parsed ≡ bad n p = step_bad first parsed n p (sym f ∙ e) in
-      record { answer = f ∙ rw b; stored = λ a j g. bad_is_not_good (and_then parsed then) n p a j (rw b) g }
+module _ {A V : Type 0} (keep : A → V) (row : A → List ℕ) (parsed : Parsed A) (left : List ℕ) where
+  pub filled_good : (a : A) (v : V) (j : ℕ) → parsed ≡ good a j → v ≡ keep a → left ≡ row a → Filled keep row parsed (Ok (record { value = v; next = j })) left
+  unfolding kept_of
+  filled_good a v j e k l =
+      record { answer = rw (e, k); stored = λ b i f. let g : a ≡ b = cc in l ∙ ap row g }
 
-  pub continues : (a : A) (j : ℕ) → parsed ≡ good a j → Filled keep row (then a j) r left → Filled keep row (and_then parsed then) r left
+  pub filled_bad : (e : Refused) → parsed ≡ bad (number_of e.refusal) e.place → Filled keep row parsed (Err e) left
+  unfolding kept_of
+  filled_bad e f = record { answer = rw f; stored = λ a j g. bad_is_not_good parsed _ _ a j f g }
+
+module _ {A B V : Type 0} (row : B → List ℕ) (keep : B → V) (parsed : Parsed A) (then : A → ℕ → Parsed B) (left : List ℕ) where
+  pub refuses : (e : Refused) → parsed ≡ bad (number_of e.refusal) e.place → Filled keep row (and_then parsed then) (Err e) left
   unfolding and_then
-  continues a j e h = rw e h
+  refuses e f = filled_bad keep row (and_then parsed then) left e (rw f)
 
-pub maps : {A B : Type 0} (f : A → B) (keepA : A → ℕ) (keep : B → ℕ) (rowA : A → List ℕ) (row : B → List ℕ) (parsed : Parsed A) (r : Step) (leftA left : List ℕ)
-    → ((a : A) → keepA a ≡ keep (f a)) → ((a : A) → leftA ≡ rowA a → left ≡ row (f a)) → Filled keepA rowA parsed r leftA
-    → Filled keep row (and_then parsed (λ a j. good (f a) j)) r left
-unfolding and_then step_of
-maps f keepA keep rowA row (good a i) r leftA left k s h =
-    record { answer = h.answer ∙ ap (λ (n : ℕ). Good n i) (k a); stored = λ b j e. let g : f a ≡ b = cc in s a (h.stored a i refl) ∙ ap row g }
-maps f keepA keep rowA row (bad n p) r leftA left k s h = record { answer = h.answer; stored = λ b j e. bad_is_not_good (bad n p) n p b j refl e }
+  pub continues : (r : Result (Read V) Refused) (a : A) (j : ℕ) → parsed ≡ good a j → Filled keep row (then a j) r left → Filled keep row (and_then parsed then) r left
+  unfolding and_then
+  continues r a j e h = rw e h
+
+module _ {A B V : Type 0} (f : A → B) (keepA : A → V) (keep : B → V) (rowA : A → List ℕ) (row : B → List ℕ) where
+  pub maps : (parsed : Parsed A) (r : Result (Read V) Refused) (leftA left : List ℕ) → ((a : A) → keepA a ≡ keep (f a)) → ((a : A) → leftA ≡ rowA a → left ≡ row (f a))
+      → Filled keepA rowA parsed r leftA → Filled keep row (and_then parsed (λ a j. good (f a) j)) r left
+  unfolding and_then kept_of
+  maps (good a i) r leftA left k s h =
+      record { answer = h.answer ∙ ap (λ (v : V). good v i) (k a); stored = λ b j e. let g : f a ≡ b = cc in s a (h.stored a i refl) ∙ ap row g }
+  maps (bad n p) r leftA left k s h = record { answer = h.answer; stored = λ b j e. bad_is_not_good (bad n p) n p b j refl e }
 
 -- the same parse, with more of the row
-pub refill : {A : Type 0} (keep : A → ℕ) (rowA row : A → List ℕ) (parsed : Parsed A) (r : Step) (leftA left : List ℕ)
+pub refill : {A V : Type 0} (keep : A → V) (rowA row : A → List ℕ) (parsed : Parsed A) (r : Result (Read V) Refused) (leftA left : List ℕ)
     → ((a : A) (j : ℕ) → parsed ≡ good a j → leftA ≡ rowA a → left ≡ row a) → Filled keep rowA parsed r leftA → Filled keep row parsed r left
 refill keep rowA row parsed r leftA left s h = record { answer = h.answer; stored = λ a j e. s a j e (h.stored a j e) }
-
-pub filled_good : {A : Type 0} (keep : A → ℕ) (row : A → List ℕ) (parsed : Parsed A) (a : A) (v j : ℕ) (left : List ℕ) → parsed ≡ good a j → v ≡ keep a → left ≡ row a
-    → Filled keep row parsed (Good v j) left
-unfolding step_of
-filled_good keep row parsed a v j left e k l =
-    record { answer = rw (e, k); stored = λ b i f. let g : a ≡ b = cc in l ∙ ap row g }
-
-pub filled_bad : {A : Type 0} (keep : A → ℕ) (row : A → List ℕ) (parsed : Parsed A) (n p : ℕ) (left : List ℕ) → parsed ≡ bad n p → Filled keep row parsed (Bad n p) left
-unfolding step_of
-filled_bad keep row parsed n p left e = record { answer = rw e; stored = λ a j f. bad_is_not_good parsed n p a j e f }
 
 pub and_then_good : {A B : Type 0} (parsed : Parsed A) (k : A → ℕ → Parsed B) (a : A) (j : ℕ) → parsed ≡ good a j → and_then parsed k ≡ k a j
 unfolding and_then
 and_then_good parsed k a j e = rw e
+
+pub and_then_bad : {A B : Type 0} (parsed : Parsed A) (k : A → ℕ → Parsed B) (n p : ℕ) → parsed ≡ bad n p → and_then parsed k ≡ bad n p
+unfolding and_then
+and_then_bad parsed k n p e = rw e

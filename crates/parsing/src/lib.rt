@@ -4,10 +4,13 @@
 
 pub mod faults;
 
-ghost use Rattle.std.specs.Prelude.{◌≡◌, true, ◌<◌};
+ghost use Rattle.std.specs.Prelude.{◌≡◌, true};
 ghost use Rattle.model.specs.Format as format;
 ghost use Rattle.model.specs.Rules as rules;
-ghost use Rattle.parsing.specs.Step.{step_of, wide_step_of, value, ranged};
+ghost use Rattle.refusal.specs.Numbers.{number_of};
+ghost use Rattle.parsing.specs.Step.{parsed_of, ranged};
+
+use refusal::{Refusal, Refused};
 
 // Predicates have two bytes in every version but this.
 const NARROW_VERSION: u8 = 1;
@@ -17,19 +20,15 @@ const NARROW_LIMIT: u16 = 64;
 
 const PREDICATE_LIMIT: u16 = 1024;
 
-// What a parser answers: a value and where to go on, or a refusal and its place.
+// A value that was read, and where to go on.
 #[derive(Clone, Copy)]
-pub enum Step {
-    Good(u8, usize),
-    Bad(u8, usize),
+pub struct Parsed<T> {
+    pub value: T,
+    pub next: usize,
 }
 
-// The same with a number of one byte or two.
-#[derive(Clone, Copy)]
-pub enum WideStep {
-    Good(u16, usize),
-    Bad(u8, usize),
-}
+// What a parser answers.
+pub type Step<T> = Result<Parsed<T>, Refused>;
 
 // Whether the count of predicates and their numbers have two bytes.
 pub fn is_wide(version: u8) -> bool
@@ -49,69 +48,50 @@ pub fn most_predicates(version: u8) -> u16
 }
 
 // A byte from low to high at i.
-pub fn byte(bytes: &[u8], low: u8, high: u8, refusal: u8, i: usize) -> Step
-    ensures { result ≡ step_of value (format.byte bytes.now low high refusal i) }
+pub fn byte(bytes: &[u8], low: u8, high: u8, refusal: Refusal, i: usize) -> Step<u8>
+    ensures { parsed_of result ≡ format.byte bytes.now low high (number_of refusal) i }
 {
     if bytes.len() <= i {
-        return Step::Bad(10, bytes.len());
+        return Err(Refused { refusal: Refusal::End, place: bytes.len() });
     }
-    let b = bytes[i];
-    if b < low {
-        return Step::Bad(refusal, i);
+    let value = bytes[i];
+    if value < low || high < value {
+        return Err(Refused { refusal, place: i });
     }
-    if high < b {
-        return Step::Bad(refusal, i);
-    }
-    Step::Good(b, i + 1)
+    Ok(Parsed { value, next: i + 1 })
 }
 
 // A number that stands at i, if it is from low to high.
-fn within(n: u16, low: u16, high: u16, refusal: u8, i: usize, next: usize) -> WideStep
-    ensures { result ≡ wide_step_of (ranged n low high refusal i next) }
+fn within(value: u16, low: u16, high: u16, refusal: Refusal, i: usize, next: usize) -> Step<u16>
+    ensures { parsed_of result ≡ ranged value low high (number_of refusal) i next }
 {
-    if n < low {
-        return WideStep::Bad(refusal, i);
+    if value < low || high < value {
+        return Err(Refused { refusal, place: i });
     }
-    if high < n {
-        return WideStep::Bad(refusal, i);
-    }
-    WideStep::Good(n, next)
-}
-
-// A byte as a number of 16 bits.
-fn widened(byte: u8) -> u16
-    ensures { (result ≡ byte) × (result < 256) }
-{
-    byte as u16
+    Ok(Parsed { value, next })
 }
 
 // A number of one byte.
-fn narrow_number(bytes: &[u8], low: u16, high: u16, refusal: u8, i: usize) -> WideStep
-    ensures { result ≡ wide_step_of (format.byte bytes.now low high refusal i) }
+fn narrow_number(bytes: &[u8], low: u16, high: u16, refusal: Refusal, i: usize) -> Step<u16>
+    ensures { parsed_of result ≡ format.byte bytes.now low high (number_of refusal) i }
 {
-    if bytes.len() <= i {
-        return WideStep::Bad(10, bytes.len());
-    }
-    within(widened(bytes[i]), low, high, refusal, i, i + 1)
+    let only = byte(bytes, 0, u8::MAX, refusal, i)?;
+    within(u16::from(only.value), low, high, refusal, i, only.next)
 }
 
-// A number of two bytes, big-endian. One that is cut short is refusal 10, whatever its first byte is.
-fn wide_number(bytes: &[u8], low: u16, high: u16, refusal: u8, i: usize) -> WideStep
-    ensures { result ≡ wide_step_of (format.number true bytes.now low high refusal i) }
+// A number of two bytes, big-endian. One that is cut short is the refusal of the end, whatever its first byte is.
+fn wide_number(bytes: &[u8], low: u16, high: u16, refusal: Refusal, i: usize) -> Step<u16>
+    ensures { parsed_of result ≡ format.number true bytes.now low high (number_of refusal) i }
 {
-    if bytes.len() <= i {
-        return WideStep::Bad(10, bytes.len());
-    }
-    if bytes.len() - i < 2 {
-        return WideStep::Bad(10, bytes.len());
-    }
-    let n = widened(bytes[i]) * 256 + widened(bytes[i + 1]);
-    within(n, low, high, refusal, i, i + 2)
+    let first = byte(bytes, 0, u8::MAX, refusal, i)?;
+    let second = byte(bytes, 0, u8::MAX, refusal, first.next)?;
+    let value = u16::from_be_bytes([first.value, second.value]);
+    within(value, low, high, refusal, i, second.next)
 }
 
 // A number from low to high at i, as long as the version has it: a count of predicates, or a predicate.
-pub fn number(bytes: &[u8], version: u8, low: u16, high: u16, refusal: u8, i: usize) -> WideStep
-    ensures { result ≡ wide_step_of (format.number (rules.wide version) bytes.now low high refusal i) }
+pub fn number(bytes: &[u8], version: u8, low: u16, high: u16, refusal: Refusal, i: usize) -> Step<u16>
+    ensures { parsed_of result ≡ format.number (rules.wide version) bytes.now low high (number_of refusal) i }
 {
     if is_wide(version) {
         return wide_number(bytes, low, high, refusal, i);
@@ -119,9 +99,9 @@ pub fn number(bytes: &[u8], version: u8, low: u16, high: u16, refusal: u8, i: us
     narrow_number(bytes, low, high, refusal, i)
 }
 
-// A variable of an atom: C-16 widens this reading alone.
-pub fn variable(bytes: &[u8], i: usize) -> Step
-    ensures { result ≡ step_of value (format.variable bytes.now i) }
+// A variable of an atom.
+pub fn variable(bytes: &[u8], i: usize) -> Step<u8>
+    ensures { parsed_of result ≡ format.variable bytes.now i }
 {
-    byte(bytes, 0, 7, 7, i)
+    byte(bytes, 0, 7, Refusal::Symbol, i)
 }

@@ -7,6 +7,10 @@ use lib.ListN.{length, take, drop, set, length-append, length-set}
 use lib.Seq.{take_at, drop_at, set_at}
 use borrow.Author.Tests.{eq-eqb, ne_eqb}
 use borrow.Rule.Slice.PartMut.{same_len_mid}
+use Rattle.core.specs.declared.result.Result.{Result}
+use Rattle.core.specs.declared.result.Result.TheVariants.{Ok, Err}
+use Rattle.refusal.specs.declared.Refusal.TheVariants.{End}
+use Rattle.refusal.specs.declared.Refused.{Refused}
 use Rattle.model.specs.Lists.{padded, collect}
 use Rattle.model.specs.Limits.{last_version}
 use Rattle.model.specs.Rules.{Rule, wide, most_predicates}
@@ -15,22 +19,22 @@ use Rattle.model.specs.Form.{rule_row, encoded}
 use Rattle.laws_format.proofs.Format.{and_then_assoc}
 use Rattle.parsing.specs.Step.{zeros, Filled, none, Arities, parsed_rules}
 use Rattle.reader.specs.Parts.{rules_row, after_arities, after_count}
-use Rattle.parsing.specs.declared.Step.{Step}
-use Rattle.parsing.specs.declared.Step.TheVariants.{Good, Bad}
-use Rattle.parsing.proofs.Lists.{zeros_suc, length_zeros, zeros_length, drop_zeros, padded_zeros}
+use Rattle.parsing.specs.declared.Parsed.{Parsed as Read}
+use Rattle.parsing.proofs.Lists.{zeros_suc, length_zeros, zeros_length, padded_zeros}
 use Rattle.parsing.proofs.Parsing.{continues, filled_good, filled_bad, byte_good}
 use Rattle.parsing.proofs.Many.{many_length, many_at}
 
 -- the lists that the form goes through: the count and the version are set, the arities are copied, the rules are filled
 
-abbrev pub first : List ℕ → ℕ → ℕ → List ℕ
-first form n version = set (set form 0 n) 7810 version
+abbrev pub first : List ℕ → ℕ → List ℕ → List ℕ
+first form version arities = set (set form 0 (length arities)) 7810 version
 
-abbrev pub listed : List ℕ → ℕ → ℕ → List ℕ → List ℕ
-listed form n version arities = take 6786 (first form n version) ++ (arities ++ drop 1024 (drop 6786 (first form n version)))
+abbrev pub listed : List ℕ → ℕ → List ℕ → List ℕ → List ℕ
+listed form version arities copied =
+    take 6786 (first form version arities) ++ (copied ++ drop ((6786 + length arities) - 6786) (drop 6786 (first form version arities)))
 
-abbrev pub ruled : List ℕ → ℕ → ℕ → List ℕ → List ℕ → List ℕ
-ruled form n version arities rules = take 1 (listed form n version arities) ++ (rules ++ drop 6785 (drop 1 (listed form n version arities)))
+abbrev pub ruled : List ℕ → ℕ → List ℕ → List ℕ → List ℕ → List ℕ
+ruled form version arities copied rules = take 1 (listed form version arities copied) ++ (rules ++ drop 6785 (drop 1 (listed form version arities copied)))
 
 padded_cons : (m x : ℕ) (xs : List ℕ) → padded (suc m) (x ∷ xs) ≡ x ∷ padded m xs
 padded_cons m x xs =
@@ -52,11 +56,14 @@ parts =
     zeros_append 6785 1026 ∙ ap (λ (xs : List ℕ). zeros 6785 ++ xs) (zeros_append 1024 2 ∙ ap (λ (xs : List ℕ). zeros 1024 ++ xs) zeros_two)
     ∙ sym (append_assoc (zeros 6785) (zeros 1024) (0 ∷ 0 ∷ []))
 
-module _ (form : List ℕ) (n version : ℕ) (z : form ≡ zeros 7812) where
+module _ (form : List ℕ) (version : ℕ) (arities : List ℕ) (z : form ≡ zeros 7812) where
+  abbrev n : ℕ
+  n = length arities
+
   abbrev behind : List ℕ
   behind = version ∷ 0 ∷ []
 
-  first_is : first form n version ≡ n ∷ (zeros 6785 ++ (zeros 1024 ++ behind))
+  first_is : first form version arities ≡ n ∷ (zeros 6785 ++ (zeros 1024 ++ behind))
   first_is =
       let front : List ℕ = (n ∷ zeros 6785) ++ zeros 1024 in
       let whole : set form 0 n ≡ front ++ (0 ∷ 0 ∷ []) =
@@ -66,64 +73,72 @@ module _ (form : List ℕ) (n version : ℕ) (z : form ≡ zeros 7812) where
       ∙ set_at front 0 (0 ∷ []) version 7810 (omega (arith, length-append (n ∷ zeros 6785) (zeros 1024), length_zeros 6785, length_zeros 1024))
       ∙ append_assoc (n ∷ zeros 6785) (zeros 1024) behind
 
-  pub first_length : length (first form n version) ≡ 7812
+  pub first_length : length (first form version arities) ≡ 7812
   first_length = length-set (set form 0 n) 7810 version ∙ length-set form 0 n ∙ zeros_length 7812 form z
 
-  last_is : drop 6786 (first form n version) ≡ zeros 1024 ++ behind
-  last_is = ap (drop 6786) first_is ∙ drop_at (zeros 6785) (zeros 1024 ++ behind) 6785 (length_zeros 6785)
+  module _ (few : n ≤ 1024) where
+    -- the places of the arities that there are not
+    rest_is : drop n (zeros 1024 ++ behind) ≡ zeros (1024 - n) ++ behind
+    rest_is =
+        let e : 1024 ≡ n + (1024 - n) = omega arith in
+        ap (λ (xs : List ℕ). drop n (xs ++ behind)) (ap zeros e ∙ zeros_append n (1024 - n))
+        ∙ ap (drop n) (append_assoc (zeros n) (zeros (1024 - n)) behind)
+        ∙ drop_at (zeros n) (zeros (1024 - n) ++ behind) n (length_zeros n)
 
-  pub places_zeros : take 1024 (drop 6786 (first form n version)) ≡ zeros 1024
-  places_zeros = ap (take 1024) last_is ∙ take_at (zeros 1024) behind 1024 (length_zeros 1024)
+    module _ (copied : List ℕ) (c : copied ≡ arities) where
+      listed_is : listed form version arities copied ≡ n ∷ (zeros 6785 ++ (padded 1024 arities ++ behind))
+      listed_is =
+          let t : take 6786 (first form version arities) ≡ n ∷ zeros 6785 =
+          ap (take 6786) first_is ∙ ap (λ (xs : List ℕ). n ∷ xs) (take_at (zeros 6785) (zeros 1024 ++ behind) 6785 (length_zeros 6785))
+          in
+          let d : drop 6786 (first form version arities) ≡ zeros 1024 ++ behind =
+          ap (drop 6786) first_is ∙ drop_at (zeros 6785) (zeros 1024 ++ behind) 6785 (length_zeros 6785)
+          in
+          let w : (6786 + n) - 6786 ≡ n = omega arith in
+          rw (t, d, w, rest_is, c, padded_zeros, append_assoc)
 
-  module _ (arities : List ℕ) (l : length arities ≡ 1024) where
-    listed_is : listed form n version arities ≡ n ∷ (zeros 6785 ++ (arities ++ behind))
-    listed_is =
-        let t : take 6786 (first form n version) ≡ n ∷ zeros 6785 =
-        ap (take 6786) first_is ∙ ap (λ (xs : List ℕ). n ∷ xs) (take_at (zeros 6785) (zeros 1024 ++ behind) 6785 (length_zeros 6785))
-        in
-        let d : drop 1024 (drop 6786 (first form n version)) ≡ behind = ap (drop 1024) last_is ∙ drop_at (zeros 1024) behind 1024 (length_zeros 1024) in
-        rw (t, d)
+      pub listed_length : length (listed form version arities copied) ≡ 7812
+      listed_length =
+          ap length listed_is
+          ∙ rw padded_zeros
+          (omega (arith, length-append (zeros 6785) ((arities ++ zeros (1024 - n)) ++ behind), length-append (arities ++ zeros (1024 - n)) behind, length-append arities (zeros (1024 - n)), length_zeros 6785, length_zeros (1024 - n)))
 
-    pub listed_length : length (listed form n version arities) ≡ 7812
-    listed_length = ap length listed_is ∙ omega (arith, length-append (zeros 6785) (arities ++ behind), length-append arities behind, length_zeros 6785)
+      pub rules_zeros : take 6785 (drop 1 (listed form version arities copied)) ≡ zeros 6785
+      rules_zeros = ap (λ (xs : List ℕ). take 6785 (drop 1 xs)) listed_is ∙ take_at (zeros 6785) (padded 1024 arities ++ behind) 6785 (length_zeros 6785)
 
-    pub rules_zeros : take 6785 (drop 1 (listed form n version arities)) ≡ zeros 6785
-    rules_zeros = ap (λ (xs : List ℕ). take 6785 (drop 1 xs)) listed_is ∙ take_at (zeros 6785) (arities ++ behind) 6785 (length_zeros 6785)
+      ruled_is : (rules : List ℕ) → ruled form version arities copied rules ≡ n ∷ (rules ++ (padded 1024 arities ++ behind))
+      ruled_is rules =
+          let d : drop 6785 (drop 1 (listed form version arities copied)) ≡ padded 1024 arities ++ behind =
+          ap (λ (xs : List ℕ). drop 6785 (drop 1 xs)) listed_is ∙ drop_at (zeros 6785) (padded 1024 arities ++ behind) 6785 (length_zeros 6785)
+          in
+          rw (d, listed_is)
 
-    pub ruled_is : (rules : List ℕ) → ruled form n version arities rules ≡ n ∷ (rules ++ (arities ++ behind))
-    ruled_is rules =
-        let d : drop 6785 (drop 1 (listed form n version arities)) ≡ arities ++ behind =
-        ap (λ (xs : List ℕ). drop 6785 (drop 1 xs)) listed_is ∙ drop_at (zeros 6785) (arities ++ behind) 6785 (length_zeros 6785)
-        in
-        rw (d, listed_is)
+      pub ruled_length : (rules : List ℕ) → length rules ≡ length (take 6785 (drop 1 (listed form version arities copied)))
+          → length (ruled form version arities copied rules) ≡ length form
+      ruled_length rules e = same_len_mid 1 6785 (listed form version arities copied) rules e ∙ listed_length ∙ sym (zeros_length 7812 form z)
 
-    pub ruled_length : (rules : List ℕ) → length rules ≡ length (take 6785 (drop 1 (listed form n version arities))) → length (ruled form n version arities rules) ≡ 7812
-    ruled_length rules e = same_len_mid 1 6785 (listed form n version arities) rules e ∙ listed_length
-
--- what is left where all is good
-pub form_encoded : (form : List ℕ) (version : ℕ) (arities places rules : List ℕ) (rs : List Rule) → form ≡ zeros 7812 → length arities ≤ 1024
-    → places ≡ arities ++ drop (length arities) (take 1024 (drop 6786 (first form (length arities) version))) → rules ≡ rules_row rs
-    → ruled form (length arities) version places rules ≡ encoded (record { version = version; fixed = 0; arities = arities; rules = rs })
-unfolding encoded rules_row
-form_encoded form version arities places rules rs z h e f =
-    let p : places ≡ padded 1024 arities = e ∙ rw (places_zeros form (length arities) version z, drop_zeros, padded_zeros) in
-    let l : length places ≡ 1024 = ap length p ∙ rw (padded_zeros, length-append, length_zeros) (omega arith) in
-    ruled_is form (length arities) version z places l rules
-    ∙ ap (λ (xs : List ℕ). length arities ∷ (xs ++ (places ++ (version ∷ 0 ∷ [])))) (f ∙ padded_cons 6784 (length rs) (collect rule_row rs))
-    ∙ ap (λ (xs : List ℕ). length arities ∷ length rs ∷ (padded 6784 (collect rule_row rs) ++ (xs ++ (version ∷ 0 ∷ [])))) p
+      -- what is left where all is good
+      pub form_encoded : (v : ℕ) (rules : List ℕ) (rs : List Rule) → version ≡ v → rules ≡ rules_row rs
+          → ruled form version arities copied rules ≡ encoded (record { version = v; fixed = 0; arities = arities; rules = rs })
+      unfolding encoded rules_row
+      form_encoded v rules rs e f =
+          ruled_is rules
+          ∙ ap (λ (xs : List ℕ). n ∷ (xs ++ (padded 1024 arities ++ behind))) (f ∙ padded_cons 6784 (length rs) (collect rule_row rs))
+          ∙ ap (λ (x : ℕ). encoded (record { version = x; fixed = 0; arities = arities; rules = rs })) e
 
 -- the end of the bytes
 
 module _ (bs : List ℕ) (version : ℕ) (arities : List ℕ) (i e : ℕ) (rs : List Rule) (left : List ℕ) (p : parsed_rules bs (signed version arities) i ≡ good rs e) where
-  pub ends_good : e ≡ length bs → left ≡ encoded (record { version = version; fixed = 0; arities = arities; rules = rs }) → Filled none encoded (after_arities bs version arities i) (Good 0 e) left
+  pub ends_good : e ≡ length bs → left ≡ encoded (record { version = version; fixed = 0; arities = arities; rules = rs })
+      → Filled none encoded (after_arities bs version arities i) (Ok (record { value = tt; next = e })) left
   unfolding after_arities
   ends_good h l =
       continues _ _ _ _ _ _ rs e p
-      (filled_good none encoded _ (record { version = version; fixed = 0; arities = arities; rules = rs }) 0 e left (rw (eq-eqb e (length bs) h)) refl l)
+      (filled_good none encoded _ left (record { version = version; fixed = 0; arities = arities; rules = rs }) tt e (rw (eq-eqb e (length bs) h)) refl l)
 
-  pub ends_bad : (e ≡ length bs → ⊥) → Filled none encoded (after_arities bs version arities i) (Bad 10 e) left
+  pub ends_bad : (e ≡ length bs → ⊥) → Filled none encoded (after_arities bs version arities i) (Err (record { refusal = End; place = e })) left
   unfolding after_arities
-  ends_bad h = continues _ _ _ _ _ _ rs e p (filled_bad none encoded _ 10 e left (rw (ne_eqb e (length bs) h)))
+  ends_bad h = continues _ _ _ _ _ _ rs e p (filled_bad none encoded _ left _ (rw (ne_eqb e (length bs) h)))
 
 -- what follows the count of predicates, once the arities are read
 
@@ -140,7 +155,7 @@ module _ (bs : List ℕ) (n j k : ℕ) (ar : List ℕ) (p : many n (byte bs 1 4 
   pub arities_taken : (places : List ℕ) → places ≡ padded 1024 ar → take n places ≡ ar
   arities_taken places e = rw (e, padded_zeros) (take_at ar (zeros (1024 - length ar)) n (many_length n (byte bs 1 4 4) j ar k p))
 
-  pub count_filled : (version : ℕ) (taken left : List ℕ) (r : Step) → taken ≡ ar → Filled none encoded (after_arities bs version taken k) r left
+  pub count_filled : (version : ℕ) (taken left : List ℕ) (r : Result (Read (Unit {0})) Refused) → taken ≡ ar → Filled none encoded (after_arities bs version taken k) r left
       → Filled none encoded (after_count bs version n j) r left
   unfolding after_count
   count_filled version taken left r t h =

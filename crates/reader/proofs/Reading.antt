@@ -70,10 +70,9 @@ module _ (bs : List ℕ) where
     afresh_refused n p e = reading_bad bs form n p room (reading_refused (zeros form_length) zeros_long n p e)
 
     -- what was left in the zeros is copied over it
-    pub afresh_copied : (i : ℕ) (left after : List ℕ) → reading bs (zeros form_length) ≡ record { answer = done i; form = left } → length left ≡ form_length
-        → after ≡ left ++ drop (length left) form → reading bs form ≡ record { answer = done i; form = after }
-    afresh_copied i left after e l c =
+    pub afresh_copied : (i : ℕ) (left : List ℕ) → reading bs (zeros form_length) ≡ record { answer = done i; form = left }
+        → reading bs form ≡ record { answer = done i; form = left ++ drop form_length form }
+    afresh_copied i left e =
         let (b, r, h) = reading_done bs (zeros form_length) i (ap (λ (x : Reading). x.answer) e) in
         let f : left ≡ encoded b = ap (λ (x : Reading). x.form) (sym e ∙ afresh_good b i r) in
-        let g : after ≡ encoded b ++ drop form_length form = c ∙ ap (λ (n : ℕ). left ++ drop n form) l ∙ ap (λ (xs : List ℕ). xs ++ drop form_length form) f in
-        reading_good bs form b i room r ∙ ap (λ (xs : List ℕ). record { answer = done i; form = xs }) (sym g)
+        reading_good bs form b i room r ∙ ap (λ (xs : List ℕ). record { answer = done i; form = xs ++ drop form_length form }) (sym f)

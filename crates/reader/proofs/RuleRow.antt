@@ -6,15 +6,19 @@ use native.Mathlib.Omega.{arith}
 use lib.ListN.{length, take, drop, set, length-append, length-set}
 use lib.Seq.{take_at, drop_at}
 use borrow.Rule.Slice.PartMut.{same_len_mid}
+use Rattle.core.specs.declared.option.Option.TheVariants.{Some, None}
+use Rattle.core.specs.declared.result.Result.{Result}
+use Rattle.core.specs.declared.result.Result.TheVariants.{Ok, Err}
+use Rattle.refusal.specs.declared.Refusal.{Refusal}
+use Rattle.refusal.specs.declared.Refused.{Refused}
 use Rattle.model.specs.Lists.{padded, collect}
 use Rattle.model.specs.Rules.{Atom}
-use Rattle.model.specs.Format.{good, bad, many, byte, Signature, atoms, rule}
+use Rattle.model.specs.Format.{good, many, byte, Signature, atoms, rule}
 use Rattle.model.specs.Form.{group, rule_row}
 use Rattle.parsing.specs.Step.{zeros, Filled, none, parsed_rules}
 use Rattle.reader.specs.Parts.{rules_row}
 use Rattle.parsing.specs.Heads.{fault}
-use Rattle.parsing.specs.declared.Step.{Step}
-use Rattle.parsing.specs.declared.Step.TheVariants.{Good, Bad}
+use Rattle.parsing.specs.declared.Parsed.{Parsed as Read}
 use Rattle.parsing.proofs.Lists.{zeros_suc, length_zeros, drop_zeros, take_zeros, padded_zeros}
 use Rattle.parsing.proofs.Parsing.{continues, filled_good, filled_bad}
 use Rattle.reader.proofs.Rows.{counted_filled}
@@ -79,21 +83,20 @@ module _ (row : List ℕ) (z : row ≡ zeros 106) where
 -- the parse of a rule, once all of it is read
 
 module _ (bs : List ℕ) (sig : Signature) (i j n k e : ℕ) (b : List Atom) (ds : List (List Atom)) (left : List ℕ) (p : atoms bs sig i ≡ good b j) (q : byte bs 1 4 6 j ≡ good n k) (s : many n (atoms bs sig) k ≡ good ds e) where
-  pub rule_good : fault (of b ds) ≡ 0 → left ≡ rule_row (of b ds) → Filled none rule_row (rule bs sig i) (Good 0 e) left
+  pub rule_good : fault (of b ds) ≡ None → left ≡ rule_row (of b ds) → Filled none rule_row (rule bs sig i) (Ok (record { value = tt; next = e })) left
   unfolding rule
   rule_good f l =
-      continues _ _ _ _ _ _ b j p (continues _ _ _ _ _ _ n k q (continues _ _ _ _ _ _ ds e s (filled_good none rule_row _ (of b ds) 0 e left (sound_good (of b ds) i e f) refl l)))
-
-  pub rule_bad : (w : ℕ) → fault (of b ds) ≡ w → (w ≡ 0 → ⊥) → Filled none rule_row (rule bs sig i) (Bad w i) left
-  unfolding rule
-  rule_bad w f h =
       continues _ _ _ _ _ _ b j p
-      (continues _ _ _ _ _ _ n k q
-      (continues _ _ _ _ _ _ ds e s
-      (filled_bad none rule_row _ w i left (sound_bad (of b ds) i e (λ g. h (sym f ∙ g)) ∙ ap (λ (x : ℕ). bad x i) f))))
+      (continues _ _ _ _ _ _ n k q (continues _ _ _ _ _ _ ds e s (filled_good none rule_row _ left (of b ds) tt e (sound_good (of b ds) i e f) refl l)))
+
+  pub rule_bad : (x : Refusal) → fault (of b ds) ≡ Some x → Filled none rule_row (rule bs sig i) (Err (record { refusal = x; place = i })) left
+  unfolding rule
+  rule_bad x f =
+      continues _ _ _ _ _ _ b j p
+      (continues _ _ _ _ _ _ n k q (continues _ _ _ _ _ _ ds e s (filled_bad none rule_row _ left _ (sound_bad (of b ds) i e x f))))
 
 -- the count of the rules, and the rules
-pub rules_filled : (bs : List ℕ) (sig : Signature) (i n j : ℕ) (place left : List ℕ) (r : Step) → byte bs 0 64 5 i ≡ good n j → place ≡ zeros 6785
+pub rules_filled : (bs : List ℕ) (sig : Signature) (i n j : ℕ) (place left : List ℕ) (r : Result (Read (Unit {0})) Refused) → byte bs 0 64 5 i ≡ good n j → place ≡ zeros 6785
     → Filled none (λ rs. padded 6784 (collect rule_row rs)) (many n (rule bs sig) j) r left
     → Filled none rules_row (parsed_rules bs sig i) r (take 1 (set place 0 n) ++ (left ++ drop (length (set place 0 n) - 1) (drop 1 (set place 0 n))))
 unfolding parsed_rules rules_row

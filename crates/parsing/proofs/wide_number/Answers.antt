@@ -1,20 +1,24 @@
 -- `parsing::wide_number` meets its contract: the two bytes that stand there, if there are two and they are in the range. Assumes nothing.
-use mathlib.Core.Path.{sym, ap, ◌∙◌}
-use native.Mathlib.Omega.{arith}
-use Rattle.parsing.specs.Step.{wide_step_of}
-use Rattle.parsing.proofs.Numbers.{ranged_same, pair_ended, pair_ranged, pair_of}
+use mathlib.Core.Path.{sym, ◌∙◌}
+use Rattle.parsing.proofs.Parsing.{handed_on, and_then_good, and_then_bad}
+use Rattle.parsing.proofs.Numbers.{ranged_same, pair_through}
 use Rattle.parsing.proofs.wide_number.Goals as goal
 
-pub returns-then-bytes-i : goal.returns-then-bytes-i
-unfolding wide_step_of
-returns-then-bytes-i c = sym (ap wide_step_of (pair_ended _ _ _ _ _ (omega (arith, c.if-bytes-i.true))))
+pub returns-in_err-first : goal.returns-in_err-first
+returns-in_err-first c =
+    rw (handed_on c.from_residual.ensures.1)
+    (sym (pair_through _ _ _ _ _ (λ k. (c.type_inv.bytes k).fits) ∙ and_then_bad _ _ _ _ (sym c.in_err-first.ensures)))
 
-pub returns-then-bytes-i-lt2 : goal.returns-then-bytes-i-lt2
-unfolding wide_step_of
-returns-then-bytes-i-lt2 c = sym (ap wide_step_of (pair_ended _ _ _ _ _ (omega (arith, c.if-bytes-i-lt2.true))))
+pub returns-in_err-second : goal.returns-in_err-second
+returns-in_err-second c =
+    rw (handed_on c.from_residual-in_err-second.ensures.1)
+    (sym (pair_through _ _ _ _ _ (λ k. (c.type_inv.bytes k).fits)
+    ∙ and_then_good _ _ _ _ (sym c.in_ok-first.ensures)
+    ∙ and_then_bad _ _ _ _ (sym c.in_err-second.ensures)))
 
 pub returns : goal.returns
 returns c =
-    c.within.ensures
-    ∙ ap wide_step_of (ranged_same _ _ _ _ _ _ _ (pair_of c.args.bytes.now c.args.i _ _ c.widened.ensures.0 c.widened-2.ensures.0))
-    ∙ sym (ap wide_step_of (pair_ranged _ _ _ _ _ (omega arith)))
+    c.within.ensures ∙ ranged_same _ _ _ _ _ _ _ c.from_be_bytes-value.ensures
+    ∙ sym (pair_through _ _ _ _ _ (λ k. (c.type_inv.bytes k).fits)
+    ∙ and_then_good _ _ _ _ (sym c.in_ok-first.ensures)
+    ∙ and_then_good _ _ _ _ (sym c.in_ok-second.ensures))

@@ -1,41 +1,36 @@
 -- `reader::after_count` meets its contract: the arities, and then what follows them. Assumes nothing.
-use mathlib.Core.Path.{◌≡◌, refl, sym, ap, ◌∙◌}
-use lib.ListN.{length, take}
+use mathlib.Core.Path.{◌≡◌, refl}
+use lib.ListN.{take}
 use Rattle.model.specs.Format.{many, byte}
 use Rattle.parsing.specs.Step.{none, zeros}
-use Rattle.parsing.proofs.Many.{many_length}
-use Rattle.parsing.proofs.Parsing.{Parses, step_good, refuses}
+use Rattle.parsing.proofs.Parsing.{Parses, handed_on, step_good, step_bad, refuses}
 use Rattle.reader.specs.Parts.{after_count}
 use Rattle.reader.proofs.FormRow.{arities_good, arities_taken, count_filled}
 use Rattle.reader.proofs.after_count.Goals as goal
-use Rattle.reader.proofs.after_count.Goals.{In-Good}
+use Rattle.reader.proofs.after_count.Goals.{In_ok-listed}
 
 -- the counted front of the array is the arities
 
-listed : (c : In-Good) → Parses none (many c.args.n (byte c.args.bytes.now 1 4 4) c.args.i) c.in-Good.field-0 c.in-Good.k
-listed c = step_good none _ _ _ (sym c.in-Good.is ∙ c.many_arities-listed.ensures.answer)
+listed : (c : In_ok-listed) → Parses none (many c.args.n (byte c.args.bytes.now 1 4 4) c.args.i) c.in_ok-listed.listed.value c.in_ok-listed.listed.next
+listed c = step_good none _ _ _ c.in_ok-listed.ensures.answer
 
-taken : (c : In-Good) → take c.args.n c.many_arities-listed.new.row ≡ (listed c).result
-taken c = arities_taken _ _ _ _ _ (listed c).parse c.many_arities-listed.new.row (c.many_arities-listed.ensures.stored _ _ (listed c).parse)
+taken : (c : In_ok-listed) → take c.args.n c.many_arities.new.row ≡ (listed c).result
+taken c = arities_taken _ _ _ _ _ (listed c).parse c.many_arities.new.row (c.in_ok-listed.ensures.stored _ _ (listed c).parse)
 
-pub many_arities-listed-requires : goal.many_arities-listed-requires
+pub many_arities-requires : goal.many_arities-requires
 unfolding zeros
-many_arities-listed-requires c = (c.requires.1, refl)
+many_arities-requires c = (c.requires.1, refl)
 
-pub returns-in_default : goal.returns-in_default
+pub returns-in_err-listed : goal.returns-in_err-listed
 unfolding after_count
-returns-in_default c = refuses _ _ _ _ _ _ none _ _ c.many_arities-listed.ensures.answer c.in_default.is
+returns-in_err-listed c = rw (handed_on c.from_residual.ensures.1) (refuses _ _ _ _ _ _ (step_bad none _ _ _ c.in_err-listed.ensures.answer))
 
-pub slice_bounds-after_arities-end : goal.slice_bounds-after_arities-end
-slice_bounds-after_arities-end c = sym (ap length (taken (goal.at.slice_bounds-after_arities-end c).In-Good) ∙ many_length _ _ _ _ _ (listed (goal.at.slice_bounds-after_arities-end c).In-Good).parse)
-
-pub after_arities-requires : goal.after_arities-requires
-after_arities-requires c =
-    let l = (goal.at.after_arities-requires c).In-Good in
-    let p = l.requires in
-    record { arities = rw (taken l) (arities_good _ _ _ _ _ (listed l).parse p.0 p.1); form_value = p.2 }
+pub after_arities-requires-clause-arities : goal.after_arities-requires-clause-arities
+after_arities-requires-clause-arities c =
+    let l = (goal.at.after_arities-requires-clause-arities c).In_ok-listed in
+    rw (taken l) (arities_good _ _ _ _ _ (listed l).parse c.requires.0 c.requires.1)
 
 pub returns : goal.returns
 returns c =
-    let l = (goal.at.returns c).In-Good in
+    let l = (goal.at.returns c).In_ok-listed in
     count_filled _ _ _ _ _ (listed l).parse _ _ _ _ (taken l) c.after_arities.ensures

@@ -1,6 +1,5 @@
 -- `reader::many_arities` meets its contract: between turns the loop is as `Progress` says. Assumes nothing.
 use mathlib.Core.Path.{◌≡◌}
-use Prim.Native.Nat.{◌≤◌, ◌-◌}
 use lib.ListN.{length}
 use Rattle.model.specs.Format.{byte}
 use Rattle.parsing.proofs.Lists.{single}
@@ -8,7 +7,4 @@ use Rattle.parsing.proofs.Many.{Anything, Progress}
 use Rattle.reader.proofs.many_arities.Given as goal
 
 abbrev pub invariant-loop-k : goal.invariant-loop-k
-invariant-loop-k l = (l.k ≤ l.n) × (length l.row ≡ length l.initial.row) × Progress (byte l.bytes 1 4 4) Anything single l.n l.i l.initial.row l.k l.at l.k 0 l.row
-
-abbrev pub decreases-loop-k : goal.decreases-loop-k
-decreases-loop-k l = l.n - l.k
+invariant-loop-k l = (length l.row ≡ length l.initial.row) × Progress (byte l.bytes 1 4 4) Anything single l.n l.i l.initial.row l.k l.at l.k tt l.row

@@ -1,5 +1,5 @@
 -- `reader::many_disjuncts` meets its contract: between turns the loop is as `Rows` says. Assumes nothing.
-use Prim.Native.Nat.{◌-◌, ◌*◌}
+use Prim.Native.Nat.{◌*◌}
 use Rattle.model.specs.Format.{signed, atoms}
 use Rattle.model.specs.Form.{group_width, group}
 use Rattle.parsing.proofs.Many.{Rows}
@@ -8,7 +8,4 @@ use Rattle.reader.proofs.many_disjuncts.Given as goal
 
 abbrev pub invariant-loop-k : goal.invariant-loop-k
 invariant-loop-k l =
-    Rows (atoms l.bytes (signed l.version l.arities)) (Keeps l.body) group group_width (4 * group_width) l.n l.i l.initial.rows l.k l.at l.from l.heads l.rows
-
-abbrev pub decreases-loop-k : goal.decreases-loop-k
-decreases-loop-k l = l.n - l.k
+    Rows (atoms l.bytes (signed l.version l.arities)) (Keeps l.body) group group_width (4 * group_width) l.n l.i l.initial.rows l.k l.at l.heads l.rows

@@ -1,34 +1,25 @@
 -- `reader::many_rules` meets its contract: between turns the loop is as `Rows` says. Assumes nothing.
 use mathlib.Core.Path.{refl}
-use Prim.Native.Nat.{◌-◌}
 use native.Mathlib.Omega.{arith}
-use Rattle.model.specs.Format.{rule}
 use Rattle.parsing.specs.Step.{none}
-use Rattle.parsing.proofs.Many.{rows_begun, rows_lent, rows_length, rows_more, rows_failed, rows_same, rows_finished}
+use Rattle.parsing.proofs.Parsing.{handed_on}
+use Rattle.parsing.proofs.Many.{rows_begun, rows_lent, rows_more, rows_failed, rows_finished}
 use Rattle.reader.proofs.many_rules.Goals as goal
 
 pub loop-k-init : goal.loop-k-init
 loop-k-init c = rows_begun c.requires.n_le_rule_limit.1 tt
 
-pub rule-requires : goal.rule-requires
-rule-requires c =
-    let a = c.requires in
-    record { arities = a.arities; row_value = rows_lent c.loop-k.invariant a.n_le_rule_limit.1 (omega arith) }
+pub rule-requires-clause-row_value : goal.rule-requires-clause-row_value
+rule-requires-clause-row_value c = rows_lent c.loop-k.invariant c.requires.n_le_rule_limit.1 (omega arith)
 
 pub loop-k-preserved : goal.loop-k-preserved
 loop-k-preserved c =
-    let f = c.rule in
-    rows_more c.loop-k.invariant c.requires.n_le_rule_limit.1 _ f.auto.row none _ _ 0 _ (omega arith) (omega arith) c.in-Good.is f.ensures
+    rows_more c.loop-k.invariant c.requires.n_le_rule_limit.1 _ c.rule.auto.row none _ tt (omega arith) (omega arith) c.in_ok-read.ensures
     (λ r e rs m. tt)
 
-pub shape_of-rows-in-Bad : goal.shape_of-rows-in-Bad
-shape_of-rows-in-Bad c = rows_length c.loop-k.invariant c.requires.n_le_rule_limit.1 c.rule.new.row c.rule.auto.row
-
-pub returns-in-Bad : goal.returns-in-Bad
-returns-in-Bad c = rows_failed c.loop-k.invariant c.requires.n_le_rule_limit.1 none _ _ _ _ _ _ _ (omega arith) c.in-Bad.is c.rule.ensures
-
-pub shape_of-rows : goal.shape_of-rows
-shape_of-rows c = rows_same c.loop-k.invariant c.requires.n_le_rule_limit.1
+pub returns-in_err-read : goal.returns-in_err-read
+returns-in_err-read c =
+    rw (handed_on c.from_residual.ensures.1) (rows_failed c.loop-k.invariant c.requires.n_le_rule_limit.1 none _ _ _ _ _ (omega arith) c.in_err-read.ensures)
 
 pub returns : goal.returns
 returns c = rows_finished c.loop-k.invariant c.requires.n_le_rule_limit.1 _ _ (λ rs m. refl) (omega arith)

@@ -1,9 +1,9 @@
 -- `reader::read` meets its contract: the refusals in their order, and a copy of the form that was filled. Assumes nothing.
-use mathlib.Core.Path.{refl, subst}
+use mathlib.Core.Path.{refl, sym, ◌∙◌}
+use lib.Seq.{length-take-le}
 use Rattle.parsing.specs.Step.{zeros}
+use Rattle.parsing.proofs.Parsing.{handed_on}
 use Rattle.laws_format.proofs.RoundTrip.{reading_short}
-use Rattle.reader.specs.Transfer.{ReadsAfresh}
-use Rattle.reader.specs.declared.Transfer.{Transfer}
 use Rattle.reader.proofs.Reading.{afresh_refused, afresh_copied}
 use Rattle.reader.proofs.read.Goals as goal
 
@@ -14,14 +14,11 @@ pub read_afresh-requires : goal.read_afresh-requires
 unfolding zeros
 read_afresh-requires c = refl
 
-pub returns-in-Done : goal.returns-in-Done
-returns-in-Done c =
-    let s = c in
-    let d = c.read_afresh in
-    afresh_copied _ _ c.if-form-lt-LENGTH.false _ d.new.form _ (subst (λ (r : Transfer). ReadsAfresh s.args.bytes.now r d.new.form) c.in-Done.is d.ensures) d.auto.form c.copy.ensures
+pub returns-in_err-end : goal.returns-in_err-end
+returns-in_err-end c = rw (handed_on c.from_residual.ensures.1) (afresh_refused _ _ c.if-form-lt-LENGTH.false _ _ c.in_err-end.ensures)
 
-pub returns-in-Refusal : goal.returns-in-Refusal
-returns-in-Refusal c =
-    let s = c in
-    let d = c.read_afresh in
-    afresh_refused _ _ c.if-form-lt-LENGTH.false _ _ (subst (λ (r : Transfer). ReadsAfresh s.args.bytes.now r d.new.form) c.in-Refusal.is d.ensures)
+pub copy_from_slice-requires : goal.copy_from_slice-requires
+copy_from_slice-requires c = length-take-le 7812 c.args.form.now c.if-form-lt-LENGTH.false ∙ sym c.read_afresh.auto.form
+
+pub returns : goal.returns
+returns c = rw c.copy_from_slice.ensures.after (afresh_copied _ _ c.if-form-lt-LENGTH.false _ _ c.in_ok-end.ensures)

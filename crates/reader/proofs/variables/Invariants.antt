@@ -1,5 +1,4 @@
 -- `reader::variables` meets its contract: between turns the loop is as `Progress` says. Assumes nothing.
-use Prim.Native.Nat.{◌≤◌, ◌-◌}
 use mathlib.Core.Path.{◌≡◌}
 use lib.ListN.{length}
 use Rattle.model.specs.Format.{variable}
@@ -9,7 +8,4 @@ use Rattle.reader.specs.Parts.{grown_by}
 use Rattle.reader.proofs.variables.Given as goal
 
 abbrev pub invariant-loop-k : goal.invariant-loop-k
-invariant-loop-k l = (l.k ≤ l.n) × (length l.row ≡ length l.initial.row) × Progress (variable l.bytes) (λ vs s. grown_by l.kept vs ≡ s) single l.n l.i l.initial.row l.k l.at l.k l.set l.row
-
-abbrev pub decreases-loop-k : goal.decreases-loop-k
-decreases-loop-k l = l.n - l.k
+invariant-loop-k l = (length l.row ≡ length l.initial.row) × Progress (variable l.bytes) (λ vs s. grown_by l.kept vs ≡ s) single l.n l.i l.initial.row l.k l.at l.k l.set l.row
