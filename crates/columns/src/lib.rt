@@ -87,8 +87,8 @@ fn put_head(t: usize, f: usize, out: &mut [u8])
     requires { (t ≤ term_limit) × (f ≤ fact_limit) × (head_length ≤ length out.old) }
     ensures { out.new ≡ sets out.old 0 (big_endian (store_length t f - 4) ++ (1 ∷ (two_bytes t ++ two_bytes f))) }
 {
-    put_number(0, &mut *out, 0);
-    put_number((store_length(t, f) - LENGTH_BYTES) as u16, &mut *out, 2);
+    let length = (store_length(t, f) - LENGTH_BYTES) as u32;
+    out[..LENGTH_BYTES].copy_from_slice(&length.to_be_bytes());
     out[VERSION_PLACE] = VERSION;
     put_number(t as u16, &mut *out, TERMS_PLACE);
     put_number(f as u16, &mut *out, FACTS_PLACE);
