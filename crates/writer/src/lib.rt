@@ -302,14 +302,8 @@ fn put_content(form: &[u16], out: &mut [u8]) -> Step<()>
     ensures written { Writes none parsed_content 4 (content (decoded form.now)) out.old result out.new }
     ensures end { IfOk result (λ p. p.next ≤ 4 + content_room) }
 {
-    let version = put(
-        number(form, VERSION),
-        1,
-        LAST_VERSION,
-        Refusal::Version,
-        LENGTH_BYTES,
-        out,
-    )?;
+    let stated = number(form, VERSION);
+    let version = put(stated, 1, LAST_VERSION, Refusal::Version, LENGTH_BYTES, out)?;
     put_declared(form, version.value, version.next, out)
 }
 
