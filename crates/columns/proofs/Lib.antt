@@ -1,4 +1,5 @@
 pub mod ColumnsLeft
+pub mod Parts
 pub mod Placed
 pub mod Head
 pub mod Written

@@ -6,7 +6,7 @@ ghost use Rattle.columns_model.specs.Differences.{differences, two_bytes};
 ghost use Rattle.columns_model.specs.Columns.{column, laid};
 ghost use Rattle.columns.specs.Placed.{Has, HasColumn};
 
-use crate::numbers::{difference, put_number};
+use crate::numbers::put_number;
 use crate::shape::Shape;
 
 // Column j, each number as its difference from the one above it. A number is read anew as the one above the next: a local in its place makes
@@ -21,7 +21,7 @@ fn put_column(table: &[u16], shape: Shape, j: usize, out: &mut [u8], at: usize)
     let mut place = j;
     let mut end = at;
     for i in 0..count {
-        put_number(difference(above, table[place]), &mut *out, end);
+        put_number(table[place].wrapping_sub(above), &mut *out, end);
         above = table[place];
         place += width;
         end += 2;

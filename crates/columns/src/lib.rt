@@ -19,6 +19,7 @@ use laying::put_columns;
 use numbers::{count_at, put_number, stated_length};
 use raising::fill;
 use reader::Transfer;
+use refusal::{Refusal, Refused};
 use shape::Shape;
 
 // What the caller's lists must have (document 01, "Lent lists"), and the bytes of the largest store.
@@ -55,15 +56,22 @@ const FACTS_PLACE: usize = 7;
 
 const VERSION: u8 = 1;
 
-const SHORT_LIST: u8 = 1;
+// What the caller's lists are refused with, and what is no store.
+const SHORT_LIST: Refused = Refused {
+    refusal: Refusal::ShortList,
+    place: 0,
+};
 
-const NO_STORE: u8 = 26;
+const NO_STORE: Refused = Refused {
+    refusal: Refusal::Store,
+    place: 0,
+};
 
-// What `unpack` answers: the counts of terms and of facts, or a refusal and its place.
-#[derive(Clone, Copy)]
-pub enum Unpacked {
-    Counts(usize, usize),
-    Refusal(u8, usize),
+// What `unpack` answers: how many terms and facts the store has.
+#[derive(Clone, Copy, Debug, PartialEq, Eq)]
+pub struct Stored {
+    pub terms: usize,
+    pub facts: usize,
 }
 
 // How many bytes the store of t terms and f facts has.
@@ -79,8 +87,8 @@ fn put_head(t: usize, f: usize, out: &mut [u8])
     requires { (t ≤ term_limit) × (f ≤ fact_limit) × (head_length ≤ length out.old) }
     ensures { out.new ≡ sets out.old 0 (big_endian (store_length t f - 4) ++ (1 ∷ (two_bytes t ++ two_bytes f))) }
 {
-    put_number(0, &mut *out, 0);
-    put_number((store_length(t, f) - LENGTH_BYTES) as u16, &mut *out, 2);
+    let length = (store_length(t, f) - LENGTH_BYTES) as u32;
+    out[..LENGTH_BYTES].copy_from_slice(&length.to_be_bytes());
     out[VERSION_PLACE] = VERSION;
     put_number(t as u16, &mut *out, TERMS_PLACE);
     put_number(f as u16, &mut *out, FACTS_PLACE);
@@ -92,19 +100,19 @@ pub fn pack(t: usize, f: usize, terms: &[u16], facts: &[u16], out: &mut [u8]) ->
     ensures { Packs t f terms.now facts.now out.old result out.new }
 {
     if terms.len() < TERMS_FRONT {
-        return Transfer::Refusal(SHORT_LIST, 0);
+        return Err(SHORT_LIST);
     }
     if facts.len() < FACTS_FRONT {
-        return Transfer::Refusal(SHORT_LIST, 0);
+        return Err(SHORT_LIST);
     }
     if out.len() < STORE_ROOM {
-        return Transfer::Refusal(SHORT_LIST, 0);
+        return Err(SHORT_LIST);
     }
     if TERM_LIMIT < t {
-        return Transfer::Refusal(NO_STORE, 0);
+        return Err(NO_STORE);
     }
     if FACT_LIMIT < f {
-        return Transfer::Refusal(NO_STORE, 0);
+        return Err(NO_STORE);
     }
     put_head(t, f, &mut *out);
     put_columns(
@@ -125,7 +133,7 @@ pub fn pack(t: usize, f: usize, terms: &[u16], facts: &[u16], out: &mut [u8]) ->
         &mut *out,
         HEAD_LENGTH + t * TERM_BYTES,
     );
-    Transfer::Done(store_length(t, f))
+    Ok(store_length(t, f))
 }
 
 // Whether t terms and f facts are within the limits, and their store has n bytes.
@@ -163,17 +171,17 @@ fn is_sound(store: &[u8]) -> bool
 
 // Fills the front parts of the tables with the records of a store, zeros after, and answers their counts. Tables below their front parts
 // are refusal 1, and then bytes that are no store 26; both leave the tables as they were.
-pub fn unpack(store: &[u8], terms: &mut [u16], facts: &mut [u16]) -> Unpacked
+pub fn unpack(store: &[u8], terms: &mut [u16], facts: &mut [u16]) -> Result<Stored, Refused>
     ensures { Unpacks store.now terms.old facts.old result terms.new facts.new }
 {
     if terms.len() < TERMS_FRONT {
-        return Unpacked::Refusal(SHORT_LIST, 0);
+        return Err(SHORT_LIST);
     }
     if facts.len() < FACTS_FRONT {
-        return Unpacked::Refusal(SHORT_LIST, 0);
+        return Err(SHORT_LIST);
     }
     if !is_sound(store) {
-        return Unpacked::Refusal(NO_STORE, 0);
+        return Err(NO_STORE);
     }
     let t = count_at(store, TERMS_PLACE);
     let f = count_at(store, FACTS_PLACE);
@@ -197,5 +205,5 @@ pub fn unpack(store: &[u8], terms: &mut [u16], facts: &mut [u16]) -> Unpacked
         FACTS_FRONT,
         &mut *facts,
     );
-    Unpacked::Counts(t, f)
+    Ok(Stored { terms: t, facts: f })
 }

@@ -8,7 +8,7 @@ ghost use Rattle.columns_model.specs.Differences.{sums, numbers_of};
 ghost use Rattle.columns_model.specs.Columns.{raised};
 ghost use Rattle.columns.specs.Placed.{placed, placed_all, Has, HasColumn};
 
-use crate::numbers::{number_at, sum};
+use crate::numbers::number_at;
 use crate::shape::Shape;
 
 // Column j of the table, out of the bytes from a place on.
@@ -22,7 +22,7 @@ fn take_column(bytes: &[u8], at: usize, shape: Shape, j: usize, table: &mut [u16
     let mut place = j;
     let mut next = at;
     for i in 0..count {
-        above = sum(above, number_at(bytes, next));
+        above = above.wrapping_add(number_at(bytes, next));
         table[place] = above;
         place += width;
         next += 2;
@@ -43,16 +43,6 @@ fn take_columns(bytes: &[u8], at: usize, shape: Shape, table: &mut [u16])
     }
 }
 
-// Writes zeros from a place up to another.
-fn clear(table: &mut [u16], from: usize, to: usize)
-    requires { (from ≤ to) × (to ≤ length table.old) }
-    ensures { table.new ≡ sets table.old from (replicate (to - from) 0) }
-{
-    for i in from..to {
-        table[i] = 0;
-    }
-}
-
 // The records into a table's front part, zeros after, out of the bytes from a place on.
 pub fn fill(bytes: &[u8], at: usize, shape: Shape, front: usize, table: &mut [u16])
     requires has { Has shape table.old at bytes.now }
@@ -61,5 +51,5 @@ pub fn fill(bytes: &[u8], at: usize, shape: Shape, front: usize, table: &mut [u1
 {
     let records = shape.count * shape.width;
     take_columns(bytes, at, shape, &mut *table);
-    clear(&mut *table, records, front);
+    table[records..front].fill(0);
 }

@@ -25,14 +25,14 @@ pub fn write_text(
 {
     match verdict {
         Verdict::Accepted(stage, f, t) => {
-            let end = write_header(b"accepted", stage, f, t, &mut *out);
-            write_records(arities, terms, facts, f, t, &mut *out, end)
+            let end = write_header(b"accepted", stage, f, t, out);
+            write_records(arities, terms, facts, f, t, out, end)
         }
         Verdict::Cyclic(stage, f, t) => {
-            let end = write_header(b"cyclic", stage, f, t, &mut *out);
-            let behind_records = write_records(arities, terms, facts, f, t, &mut *out, end);
-            write_loop_line(terms, t, &mut *out, behind_records)
+            let end = write_header(b"cyclic", stage, f, t, out);
+            let behind_records = write_records(arities, terms, facts, f, t, out, end);
+            write_loop_line(terms, t, out, behind_records)
         }
-        Verdict::Refused(number, place) => write_refusal(number, place, &mut *out),
+        Verdict::Refused(refused) => write_refusal(refused, out),
     }
 }

@@ -24,11 +24,9 @@ fn write_decimal(n: usize, out: &mut [u8], at: usize) -> usize
     ensures { Writes (decimal n) at out.old out.new result }
 {
     let count = digit_count(n);
-    let mut i = count;
     let mut rest = n;
-    while 0 < i {
-        i -= 1;
-        out[at + i] = 48 + (rest % 10) as u8;
+    for i in (0..count).rev() {
+        out[at + i] = b'0' + (rest % 10) as u8;
         rest /= 10;
     }
     at + count
@@ -40,7 +38,7 @@ pub fn write_number(n: usize, out: &mut [u8], at: usize) -> usize
     ensures { Writes (32 ∷ decimal n) at out.old out.new result }
 {
     out[at] = b' ';
-    write_decimal(n, &mut *out, at + 1)
+    write_decimal(n, out, at + 1)
 }
 
 // Numbers, each behind its space.
@@ -48,11 +46,11 @@ pub fn write_numbers(numbers: &[u16], out: &mut [u8], at: usize) -> usize
     requires { Room (spaced numbers.now) at out.old }
     ensures { Writes (spaced numbers.now) at out.old out.new result }
 {
-    let mut o = at;
-    for i in 0..numbers.len() {
-        o = write_number(numbers[i] as usize, &mut *out, o);
+    let mut end = at;
+    for &n in numbers {
+        end = write_number(usize::from(n), out, end);
     }
-    o
+    end
 }
 
 pub fn write_word(word: &[u8], out: &mut [u8], at: usize) -> usize

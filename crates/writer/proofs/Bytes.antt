@@ -7,8 +7,8 @@ use Prim.Native.Nat.{ℕ, zero, suc, ◌+◌, ◌-◌, ◌/◌, ◌%◌, ◌≤�
 use native.Mathlib.Omega.{arith}
 use native.Mathlib.Decide.{dec_lt}
 use lib.Dec.{eqb}
-use lib.ListN.{length, get_or, take, drop, length-set}
-use lib.Seq.{length-take-le, get_or-take, get_or-drop, ext_get_or}
+use lib.ListN.{length, get_or, take, drop, get_or-append, length-drop}
+use lib.Seq.{get_or-append_right, length-take-le, get_or-take, get_or-drop, ext_get_or}
 use borrow.Author.Tests.{eqb-true}
 use Rattle.model.specs.Limits.{last_version}
 use Rattle.model.specs.Rules.{RuleSet, Rule, wide, most_predicates}
@@ -19,7 +19,7 @@ use Rattle.laws_format.proofs.Bytes.{bytes_of_length}
 use Rattle.laws_format.proofs.RoundTrip.{decoded_fault, writing_good}
 use Rattle.laws_format.proofs.Format.{and_then_assoc}
 use Rattle.parsing.specs.Step.{parsed_rules}
-use Rattle.writer.specs.Writes.{Agree, parsed_content, after_version, after_count, lengthened}
+use Rattle.writer.specs.Writes.{Agree, parsed_content, after_version, after_count}
 
 -- the parse of all that follows the length, and the test that the bytes end there
 
@@ -46,13 +46,6 @@ module _ (bs : List ℕ) where
       sym (and_then_assoc (byte bs 0 64 5 k) (λ m l. many m (rule bs (signed v ar)) l) (λ rs e. tested (record { version = v; fixed = 0; arities = ar; rules = rs }) e))
       ∙ made_tested (and_then (byte bs 0 64 5 k) (λ m l. many m (rule bs (signed v ar)) l)) (λ (rs : List Rule). record { version = v; fixed = 0; arities = ar; rules = rs }))))
 
-lengthened_is : (xs : List ℕ) (n : ℕ) → 4 ≤ length xs → lengthened xs n ≡ 0 ∷ 0 ∷ n / 256 ∷ n % 256 ∷ drop 4 xs
-lengthened_is [] n h = absurd (omega arith)
-lengthened_is (a ∷ []) n h = absurd (omega arith)
-lengthened_is (a ∷ b ∷ []) n h = absurd (omega arith)
-lengthened_is (a ∷ b ∷ c ∷ []) n h = absurd (omega arith)
-lengthened_is (a ∷ b ∷ c ∷ d ∷ xs) n h = refl
-
 module _ (form : List ℕ) where
   abbrev bytes : List ℕ
   bytes = bytes_of (decoded form)
@@ -76,61 +69,39 @@ module _ (form : List ℕ) where
 
   module _ (local : List ℕ) (e : ℕ) (g : Agree bytes e local) (l : length local ≡ 9096) (m : e ≤ 9096) (s : e ≡ length bytes) where
     abbrev whole : List ℕ
-    whole = lengthened local (e - 4)
+    whole = big_endian (e - 4) ++ drop 4 local
 
-    four : e ≡ 4 + length (content (decoded form))
-    four = s ∙ bytes_of_length (decoded form)
-
-    front_is : whole ≡ 0 ∷ 0 ∷ (e - 4) / 256 ∷ (e - 4) % 256 ∷ drop 4 local
-    front_is = lengthened_is local (e - 4) (omega arith)
-
-    at_front : (k : ℕ) → get_or whole k 0 ≡ get_or (0 ∷ 0 ∷ (e - 4) / 256 ∷ (e - 4) % 256 ∷ drop 4 local) k 0
-    at_front k = ap (λ (xs : List ℕ). get_or xs k 0) front_is
-
-    first : (k : ℕ) → k < 4 → get_or whole k 0 ≡ get_or bytes k 0
+    at_front : (k : ℕ) → k < 4 → get_or whole k 0 ≡ get_or bytes k 0
     unfolding bytes_of big_endian
-    first zero h =
-        let n = four in
-        let z : 0 ≡ (length (content (decoded form)) / 16777216) % 256 = omega arith in
-        at_front 0 ∙ z
-    first (suc zero) h =
-        let n = four in
-        let z : 0 ≡ (length (content (decoded form)) / 65536) % 256 = omega arith in
-        at_front 1 ∙ z
-    first (suc (suc zero)) h =
-        let n = four in
-        let z : (e - 4) / 256 ≡ (length (content (decoded form)) / 256) % 256 = omega arith in
-        at_front 2 ∙ z
-    first (suc (suc (suc zero))) h =
-        let n = four in
-        let z : (e - 4) % 256 ≡ length (content (decoded form)) % 256 = omega arith in
-        at_front 3 ∙ z
-    first (suc (suc (suc (suc k)))) h = absurd (omega arith)
+    at_front k h =
+        let n : e - 4 ≡ length (content (decoded form)) = let f = bytes_of_length (decoded form) in omega arith in
+        get_or-append (big_endian (e - 4)) (drop 4 local) 0 k h
+        ∙ ap (λ (m : ℕ). get_or (big_endian m) k 0) n
+        ∙ sym (get_or-append (big_endian (length (content (decoded form)))) (content (decoded form)) 0 k h)
 
     later : (k : ℕ) → 4 ≤ k → k < e → get_or whole k 0 ≡ get_or bytes k 0
-    later zero h i = absurd (omega arith)
-    later (suc zero) h i = absurd (omega arith)
-    later (suc (suc zero)) h i = absurd (omega arith)
-    later (suc (suc (suc zero))) h i = absurd (omega arith)
-    later (suc (suc (suc (suc k)))) h i =
-        let n : 4 + k ≡ suc (suc (suc (suc k))) = omega arith in
-        at_front (suc (suc (suc (suc k)))) ∙ get_or-drop 4 local k 0 ∙ ap (λ (x : ℕ). get_or local x 0) n ∙ g.at (suc (suc (suc (suc k)))) h i
+    unfolding big_endian
+    later k h i =
+        let n : 4 + (k - 4) ≡ k = omega arith in
+        get_or-append_right (big_endian (e - 4)) (drop 4 local) k 0 h
+        ∙ get_or-drop 4 local (k - 4) 0
+        ∙ ap (λ (x : ℕ). get_or local x 0) n
+        ∙ g.at k h i
 
-    pub whole_length : length whole ≡ 9096
-    whole_length = simp length-set l
+    whole_length : length whole ≡ 9096
+    unfolding big_endian
+    whole_length = let n = length-drop 4 local in omega arith
 
-    pub front_length : length (take e whole) ≡ e
+    front_length : length (take e whole) ≡ e
     front_length = length-take-le e whole (let n = whole_length in omega arith)
 
-    pub front_bytes : take e whole ≡ bytes
+    front_bytes : take e whole ≡ bytes
     front_bytes = ext_get_or 0 (take e whole) bytes (front_length ∙ s) (λ k h. let n = front_length in get_or-take e whole k 0 (omega arith) ∙ go k (omega arith) (dec_lt k 4))
       where
         go : (k : ℕ) → k < e → Dec (k < 4) → get_or whole k 0 ≡ get_or bytes k 0
-        go k h (yes i) = first k i
+        go k h (yes i) = at_front k i
         go k h (no i) = later k (omega arith) h
 
-    pub write_whole : (b : RuleSet) (out after : List ℕ) → rule_set bytes ≡ good b e → e ≤ length out → after ≡ take e whole ++ drop (length (take e whole)) out
-        → writing form out ≡ record { answer = done e; bytes = after }
-    write_whole b out after p h c =
-        let a : after ≡ bytes ++ drop (length bytes) out = c ∙ ap (λ (n : ℕ). take e whole ++ drop n out) (front_length ∙ s) ∙ ap (λ (xs : List ℕ). xs ++ drop (length bytes) out) front_bytes in
-        writing_good form out b e p (omega arith) ∙ rw (a, s)
+    pub write_whole : (b : RuleSet) (out part : List ℕ) → rule_set bytes ≡ good b e → e ≤ length out → part ≡ take e whole
+        → writing form out ≡ record { answer = done e; bytes = part ++ drop e out }
+    write_whole b out part p h c = let a : part ≡ bytes = c ∙ front_bytes in writing_good form out b e p (omega arith) ∙ rw (a, s)

@@ -8,9 +8,10 @@ use lib.ListN.{length}
 use Rattle.model.specs.Lists.{collect}
 use Rattle.model.specs.Format.{Parsed, many}
 use Rattle.model.specs.Form.{spaced}
-use Rattle.parsing.specs.declared.Step.{Step}
-use Rattle.parsing.specs.declared.Step.TheVariants.{Good, Bad}
-use Rattle.writer.specs.Writes.{Writes, Ends}
+use Rattle.std.specs.Prelude.{Ok, Err}
+use Rattle.refusal.specs.declared.Refused.{Refused}
+use Rattle.parsing.specs.declared.Parsed.{Parsed as Read}
+use Rattle.writer.specs.Writes.{Writes}
 use Rattle.writer.proofs.Writing.{Writing, writing_begun, writing_more, writing_refused, writing_ended}
 
 -- what is spelled from the k-th place on
@@ -38,7 +39,6 @@ module _ {A : Type 0} (f : ℕ → A) (spell : A → List ℕ) (w at count : ℕ
 
 -- k values of `count` are written, at most `size` bytes each, and s is what the loop keeps of them
 pub record Turns {A S : Type 0} (p : List ℕ → ℕ → Parsed A) (Kept : List A → S → Type 0) (f : ℕ → A) (spell : A → List ℕ) (w size at count i : ℕ) (before : List ℕ) (k j : ℕ) (s : S) (now : List ℕ) : Type 0 where
-  pub within : k ≤ count
   pub most : j ≤ i + size * k
   pub length_kept : length now ≡ length before
   pub writing : Writing p Kept count i (collect spell (spaced f w count at)) before k j s (rest f spell w at count k) now
@@ -47,7 +47,6 @@ pub turns_begun : {A S : Type 0} {p : List ℕ → ℕ → Parsed A} {Kept : Lis
     → Turns p Kept f spell w size at count i before 0 i s before
 turns_begun {p = p} {Kept = Kept} {f = f} {spell = spell} {w = w} {size = size} {at = at} {count = count} {i = i} {before = before} {s = s} h =
     record {
-      within = omega arith;
       most = omega arith;
       length_kept = refl;
       writing = writing_begun p Kept count i _ before s _ (rest_whole f spell w at count) h;
@@ -56,22 +55,20 @@ turns_begun {p = p} {Kept = Kept} {f = f} {spell = spell} {w = w} {size = size} 
 module _ {A S : Type 0} {p : List ℕ → ℕ → Parsed A} {Kept : List A → S → Type 0} {f : ℕ → A} {spell : A → List ℕ} {w size at count i : ℕ} {before : List ℕ} {k j : ℕ} {s : S} {now : List ℕ}
     (h : Turns p Kept f spell w size at count i before k j s now) where
   -- what a turn writes
-  module _ (keep : A → ℕ) (place : ℕ) (r : Step) (now' : List ℕ) (b : k < count) (e : place ≡ at + k * w) (d : Writes keep (λ bs. p bs j) j (spell (f place)) now r now') where
-    pub turns_more : (v next : ℕ) (s' : S) → r ≡ Good v next → Ends r j size → length now' ≡ length now
-        → ((a : A) → keep a ≡ v → (done : List A) → Kept done s → Kept (done ++ (a ∷ [])) s') → Turns p Kept f spell w size at count i before (k + 1) next s' now'
-    turns_more v next s' g m l step =
+  module _ {V : Type 0} (keep : A → V) (place : ℕ) (now' : List ℕ) (b : k < count) (e : place ≡ at + k * w) where
+    pub turns_more : (x : Read V) (s' : S) → Writes keep (λ bs. p bs j) j (spell (f place)) now (Ok x) now' → x.next ≤ j + size → length now' ≡ length now
+        → ((a : A) → keep a ≡ x.value → (done : List A) → Kept done s → Kept (done ++ (a ∷ [])) s') → Turns p Kept f spell w size at count i before (k + 1) x.next s' now'
+    turns_more x s' d m l step =
         record {
-          within = omega arith;
-          most = let x = m.most v next g in let y = h.most in omega (arith, mul-add size k 1, mul-one size);
+          most = let y = h.most in omega (arith, mul-add size k 1, mul-one size);
           length_kept = l ∙ h.length_kept;
-          writing = writing_more p Kept count i _ before k j s _ now h.writing keep _ _ now' r v next s' b (rest_next f spell w at count k place b e) g d step;
+          writing = writing_more p Kept count i _ before k j s _ now h.writing keep _ _ now' x s' b (rest_next f spell w at count k place b e) d step;
         }
 
-    pub turns_refused : (whole : List A → ℕ) (m q : ℕ) (left : List ℕ) → r ≡ Bad m q
-        → Writes whole (λ bs. many count (p bs) i) i (collect spell (spaced f w count at)) before (Bad m q) left
-    turns_refused whole m q left g =
-        writing_refused p Kept count i _ before k j s _ now h.writing keep whole _ _ now' left r m q b (rest_next f spell w at count k place b e) g d
+    pub turns_refused : {W : Type 0} (whole : List A → W) (r : Refused) (left : List ℕ) → Writes keep (λ bs. p bs j) j (spell (f place)) now (Err r) now'
+        → Writes whole (λ bs. many count (p bs) i) i (collect spell (spaced f w count at)) before (Err r) left
+    turns_refused whole r left d = writing_refused p Kept count i _ before k j s _ now h.writing keep whole _ _ now' left r b (rest_next f spell w at count k place b e) d
 
-  pub turns_ended : (whole : List A → ℕ) (v : ℕ) → ((done : List A) → Kept done s → whole done ≡ v) → count ≤ k
-      → Writes whole (λ bs. many count (p bs) i) i (collect spell (spaced f w count at)) before (Good v j) now
+  pub turns_ended : {V : Type 0} (whole : List A → V) (v : V) → ((done : List A) → Kept done s → whole done ≡ v) → count ≤ k
+      → Writes whole (λ bs. many count (p bs) i) i (collect spell (spaced f w count at)) before (Ok (record { value = v; next = j })) now
   turns_ended whole v g b = writing_ended p Kept count i _ before k j s _ now h.writing whole v g b (rest_none f spell w at count k b)

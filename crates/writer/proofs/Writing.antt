@@ -1,148 +1,170 @@
 -- What is written, by the parts that it is made of. Assumes nothing.
 use mathlib.Core.Path.{◌≡◌, refl, sym, ap, ap₂, ◌∙◌, subst}
 use mathlib.Core.List.{List, [], ◌∷◌, ◌++◌, append_assoc}
-use Prim.Native.Nat.{ℕ, zero, suc, ◌+◌, ◌≤◌, ◌<◌}
+use Prim.Native.Nat.{ℕ, zero, suc, ◌+◌, ◌-◌, ◌≤◌, ◌<◌}
 use native.Mathlib.Omega.{arith}
 use native.Mathlib.Decide.{dec_lt}
-use lib.ListN.{length, get_or, drop, set}
-use lib.Seq.{get_or-set_same, get_or-set_other}
+use lib.ListN.{length, get_or, take, drop, set, get_or-append}
+use lib.Seq.{length-take-le, get_or-take, get_or-drop, get_or-append_right}
+use borrow.Rule.Slice.PartMut.{put_mid}
 use Rattle.model.specs.Format.{Parsed, good, bad, and_then, many, byte}
 use Rattle.laws_format.proofs.Parsers.{drop_past, drop_place}
-use Rattle.parsing.specs.Step.{step_of, value}
-use Rattle.writer.specs.Writes.{Agree, Written, Writes, Ends, Took, Small}
-use Rattle.parsing.specs.declared.Step.{Step}
-use Rattle.parsing.specs.declared.Step.TheVariants.{Good, Bad}
-use Rattle.parsing.proofs.Parsing.{step_good, step_bad, bad_is_not_good, byte_below, byte_above, byte_within, byte_good, and_then_good}
+use Rattle.std.specs.Prelude.{Result, Ok, Err}
+use Rattle.refusal.specs.declared.Refusal.{Refusal}
+use Rattle.refusal.specs.declared.Refused.{Refused}
+use Rattle.refusal.specs.Numbers.{number_of}
+use Rattle.parsing.specs.Step.{kept_of}
+use Rattle.parsing.specs.declared.Parsed.{Parsed as Read}
+use Rattle.writer.specs.Writes.{value, Agree, Written, Writes}
+use Rattle.parsing.proofs.Lists.{set_part}
+use Rattle.parsing.proofs.Parsing.{Parses, step_good, step_bad, bad_is_not_good, byte_below, byte_above, byte_within, byte_good, and_then_good}
 use Rattle.parsing.proofs.Many.{Progress, begun, more, ended, refused}
 
 -- a refusal and a value
 
-pub written_bad : {A : Type 0} (keep : A → ℕ) (parsed : Parsed A) (bs rest : List ℕ) (n p : ℕ) (out : List ℕ) → parsed ≡ bad n p → Written keep parsed bs rest (Bad n p) out
-unfolding step_of
-written_bad keep parsed bs rest n p out e =
-    record { answer = rw e; stored = λ a j f. bad_is_not_good parsed n p a j e f; left = λ a j f. bad_is_not_good parsed n p a j e f }
+module _ {A V : Type 0} (keep : A → V) (parsed : Parsed A) (bs rest out : List ℕ) where
+  pub written_bad : (e : Refused) → parsed ≡ bad (number_of e.refusal) e.place → Written keep parsed bs rest (Err e) out
+  unfolding kept_of
+  written_bad e f = record { answer = rw f; stored = λ a j g. bad_is_not_good parsed _ _ a j f g; left = λ a j g. bad_is_not_good parsed _ _ a j f g }
 
-pub written_good : {A : Type 0} (keep : A → ℕ) (parsed : Parsed A) (bs rest : List ℕ) (a : A) (v j : ℕ) (out : List ℕ) → parsed ≡ good a j → keep a ≡ v → Agree bs j out
-    → drop j bs ≡ rest → Written keep parsed bs rest (Good v j) out
-unfolding step_of
-written_good keep parsed bs rest a v j out e k g l =
-    record {
-      answer = rw (e, k);
-      stored = λ b i f. let h : j ≡ i = cc in subst (λ (x : ℕ). Agree bs x out) h g;
-      left = λ b i f. let h : j ≡ i = cc in subst (λ (x : ℕ). drop x bs ≡ rest) h l;
-    }
+  pub written_good : (a : A) (v : V) (j : ℕ) → parsed ≡ good a j → keep a ≡ v → Agree bs j out → drop j bs ≡ rest → Written keep parsed bs rest (Ok (record { value = v; next = j })) out
+  unfolding kept_of
+  written_good a v j e k g l =
+      record {
+        answer = rw (e, k);
+        stored = λ b i f. let h : j ≡ i = cc in subst (λ (x : ℕ). Agree bs x out) h g;
+        left = λ b i f. let h : j ≡ i = cc in subst (λ (x : ℕ). drop x bs ≡ rest) h l;
+      }
 
-pub ends_bad : (n p i w : ℕ) → Ends (Bad n p) i w
-ends_bad n p i w = record { most = λ v j e. absurd (let z : ◌≡◌ {A = ℕ} 0 1 = cc in omega arith) }
+-- bytes that are written at once, where they are spelled
 
-pub ends_good : (v j i w : ℕ) → j ≤ i + w → Ends (Good v j) i w
-ends_good v j i w h = record { most = λ u k e. let f : j ≡ k = cc in omega arith }
+module _ (i : ℕ) (xs before : List ℕ) (fits : i + length xs ≤ length before) where
+  agree_part : (bs rest : List ℕ) → drop i bs ≡ xs ++ rest → Agree bs i before → Agree bs (i + length xs) (put_mid i (length xs) before xs)
+  agree_part bs rest d g = record { at = λ k l m. go k l m (dec_lt k i) }
+    where
+      tail : List ℕ
+      tail = drop (length xs) (drop i before)
 
-pub bad_good : {P : Type 0} (n p u j : ℕ) → Bad n p ≡ Good u j → P
-bad_good n p u j e = absurd (let z : ◌≡◌ {A = ℕ} 0 1 = cc in omega arith)
+      front : length (take i before) ≡ i
+      front = length-take-le i before (omega arith)
 
-pub took_bad : (n p v high i : ℕ) → Took (Bad n p) v high i
-took_bad n p v high i =
-    record { same = λ u j e. bad_good n p u j e; most = λ u j e. bad_good n p u j e; next = λ u j e. bad_good n p u j e }
+      go : (k : ℕ) → 4 ≤ k → k < i + length xs → Dec (k < i) → get_or (put_mid i (length xs) before xs) k 0 ≡ get_or bs k 0
+      go k l m (yes n) = get_or-append (take i before) (xs ++ tail) 0 k (omega (arith, front)) ∙ get_or-take i before k 0 n ∙ g.at k l n
+      go k l m (no n) =
+          let within : k - i < length xs = omega arith in
+          let place : i + (k - i) ≡ k = omega arith in
+          get_or-append_right (take i before) (xs ++ tail) k 0 (omega (arith, front))
+          ∙ ap (λ (o : ℕ). get_or (xs ++ tail) (k - o) 0) front
+          ∙ get_or-append xs tail 0 (k - i) within
+          ∙ sym (get_or-append xs rest 0 (k - i) within)
+          ∙ ap (λ (ys : List ℕ). get_or ys (k - i) 0) (sym d)
+          ∙ get_or-drop i bs (k - i) 0
+          ∙ ap (λ (o : ℕ). get_or bs o 0) place
 
-pub small_bad : (n p : ℕ) (arities : List ℕ) → Small (Bad n p) arities
-small_bad n p arities = record { each = λ v j e. bad_good n p v j e }
-
-pub small_good : (v j : ℕ) (arities : List ℕ) → ((p : ℕ) → get_or arities p 0 ≤ 4) → Small (Good v j) arities
-small_good v j arities h = record { each = λ u k e. h }
-
-pub took_good : (v high i : ℕ) → v ≤ high → Took (Good v (i + 1)) v high i
-took_good v high i k =
-    record { same = λ u j e. let f : v ≡ u = cc in sym f; most = λ u j e. k; next = λ u j e. let f : i + 1 ≡ j = cc in sym f }
+  pub writes_part : {A V : Type 0} (keep : A → V) (parser : List ℕ → Parsed A) (v : V)
+      → ((bs rest : List ℕ) → drop i bs ≡ xs ++ rest → Parses keep (parser bs) v (i + length xs))
+      → Writes keep parser i xs before (Ok (record { value = v; next = i + length xs })) (put_mid i (length xs) before xs)
+  writes_part keep parser v f =
+      record {
+        run =
+            λ bs rest d g.
+            let a = f bs rest d in
+            written_good keep _ bs rest _ a.result v _ a.parse a.kept (agree_part bs rest d g) (drop_past bs xs rest i d);
+      }
 
 -- one byte
 
--- a list agrees with bytes for one more, once that is set
-pub agree_more : (v i : ℕ) (before bs : List ℕ) → i < length before → Agree bs i before → get_or bs i 0 ≡ v → Agree bs (i + 1) (set before i v)
-agree_more v i before bs h g e = record { at = λ k l m. go k l m (dec_lt k i) }
-  where
-    go : (k : ℕ) → 4 ≤ k → k < i + 1 → Dec (k < i) → get_or (set before i v) k 0 ≡ get_or bs k 0
-    go k l m (yes n) = get_or-set_other before i k v 0 (omega arith) ∙ g.at k l n
-    go k l m (no n) =
-        let s : k ≡ i = omega arith in
-        ap (λ (x : ℕ). get_or (set before i v) x 0) s ∙ get_or-set_same before i v 0 h ∙ sym e ∙ ap (λ (x : ℕ). get_or bs x 0) (sym s)
+module _ (v low high : ℕ) (refusal : Refusal) (i : ℕ) (before : List ℕ) where
+  abbrev byte_at : List ℕ → Parsed ℕ
+  byte_at bs = byte bs low high (number_of refusal) i
 
-module _ (v low high refusal i : ℕ) (before : List ℕ) where
-  pub writes_below : v < low → (after : List ℕ) → Writes value (λ bs. byte bs low high refusal i) i (v ∷ []) before (Bad refusal i) after
+  pub writes_below : v < low → (after : List ℕ) → Writes value byte_at i (v ∷ []) before (Err (record { refusal = refusal; place = i })) after
   writes_below h after =
       record {
         run =
             λ bs rest d g.
             let (l, e) = drop_place bs i v rest d in
-            written_bad value _ bs rest refusal i after (byte_below bs low high refusal i l (omega arith));
+            written_bad value _ bs rest after _ (byte_below bs low high _ i l (omega arith));
       }
 
-  pub writes_above : low ≤ v → high < v → (after : List ℕ) → Writes value (λ bs. byte bs low high refusal i) i (v ∷ []) before (Bad refusal i) after
+  pub writes_above : low ≤ v → high < v → (after : List ℕ) → Writes value byte_at i (v ∷ []) before (Err (record { refusal = refusal; place = i })) after
   writes_above h k after =
       record {
         run =
             λ bs rest d g.
             let (l, e) = drop_place bs i v rest d in
-            written_bad value _ bs rest refusal i after (byte_above bs low high refusal i l (omega arith) (omega arith));
+            written_bad value _ bs rest after _ (byte_above bs low high _ i l (omega arith) (omega arith));
       }
 
-  pub writes_within : low ≤ v → v ≤ high → i < length before → Writes value (λ bs. byte bs low high refusal i) i (v ∷ []) before (Good v (i + 1)) (set before i v)
+  pub writes_within : low ≤ v → v ≤ high → i < length before → Writes value byte_at i (v ∷ []) before (Ok (record { value = v; next = i + 1 })) (set before i v)
   writes_within h k w =
-      record {
-        run =
-            λ bs rest d g.
-            let (l, e) = drop_place bs i v rest d in
-            written_good value _ bs rest (get_or bs i 0) v (i + 1) (set before i v) (byte_within bs low high refusal i l (omega arith) (omega arith)) e (agree_more v i before bs w g e)
-            (drop_past bs (v ∷ []) rest i d);
-      }
+      rw (set_part before i v w)
+      (writes_part i (v ∷ []) before (omega arith) value byte_at v
+      (λ bs rest d.
+      let (l, e) = drop_place bs i v rest d in
+      record { result = get_or bs i 0; parse = byte_within bs low high _ i l (omega arith) (omega arith); kept = e }))
 
 -- one part after another
 
-module _ {A B : Type 0} (keepA : A → ℕ) (keep : B → ℕ) (first : List ℕ → Parsed A) (then : List ℕ → A → ℕ → Parsed B) (i : ℕ) (spelledA spelledB before : List ℕ) (r : Step) (mid : List ℕ)
-    (h : Writes keepA first i spelledA before r mid) where
-  part : (bs rest : List ℕ) → drop i bs ≡ (spelledA ++ spelledB) ++ rest → Agree bs i before → Written keepA (first bs) bs (spelledB ++ rest) r mid
-  part bs rest d g = h.run bs (spelledB ++ rest) (d ∙ append_assoc spelledA spelledB rest) g
+module _ {A B V W : Type 0} (keepA : A → V) (keep : B → W) (first : List ℕ → Parsed A) (then : List ℕ → A → ℕ → Parsed B) (i : ℕ) (spelledA spelledB before mid : List ℕ) where
+  abbrev both : List ℕ → Parsed B
+  both bs = and_then (first bs) (then bs)
 
-  pub writes_refused : (n p : ℕ) (after : List ℕ) → r ≡ Bad n p → Writes keep (λ bs. and_then (first bs) (then bs)) i (spelledA ++ spelledB) before r after
+  part : (r : Result (Read V) Refused) → Writes keepA first i spelledA before r mid → (bs rest : List ℕ) → drop i bs ≡ (spelledA ++ spelledB) ++ rest → Agree bs i before
+      → Written keepA (first bs) bs (spelledB ++ rest) r mid
+  part r h bs rest d g = h.run bs (spelledB ++ rest) (d ∙ append_assoc spelledA spelledB rest) g
+
+  pub writes_refused : (e : Refused) (after : List ℕ) → Writes keepA first i spelledA before (Err e) mid → Writes keep both i (spelledA ++ spelledB) before (Err e) after
   unfolding and_then
-  writes_refused n p after e = record { run = λ bs rest d g. go bs rest d g }
-    where
-      go : (bs rest : List ℕ) → drop i bs ≡ (spelledA ++ spelledB) ++ rest → Agree bs i before → Written keep (and_then (first bs) (then bs)) bs rest r after
-      go bs rest d g =
-          let b : first bs ≡ bad n p = step_bad keepA (first bs) n p (sym e ∙ (part bs rest d g).answer) in
-          let w : Written keep (and_then (first bs) (then bs)) bs rest (Bad n p) after = written_bad keep _ bs rest n p after (rw b) in
-          subst (λ (x : Step). Written keep (and_then (first bs) (then bs)) bs rest x after) (sym e) w
+  writes_refused e after h =
+      record { run = λ bs rest d g. let b = step_bad keepA (first bs) _ _ (part (Err e) h bs rest d g).answer in written_bad keep _ bs rest after e (rw b) }
 
-  pub writes_then : (v j : ℕ) (s : Step) (after : List ℕ) → r ≡ Good v j → ((a : A) → keepA a ≡ v → Writes keep (λ bs. then bs a j) j spelledB mid s after)
-      → Writes keep (λ bs. and_then (first bs) (then bs)) i (spelledA ++ spelledB) before s after
+  pub writes_then : (x : Read V) (s : Result (Read W) Refused) (after : List ℕ) → Writes keepA first i spelledA before (Ok x) mid
+      → ((a : A) → keepA a ≡ x.value → Writes keep (λ bs. then bs a x.next) x.next spelledB mid s after) → Writes keep both i (spelledA ++ spelledB) before s after
   unfolding and_then
-  writes_then v j s after e f = record { run = λ bs rest d g. go bs rest d g }
+  writes_then x s after h f = record { run = λ bs rest d g. go bs rest d g }
     where
-      go : (bs rest : List ℕ) → drop i bs ≡ (spelledA ++ spelledB) ++ rest → Agree bs i before → Written keep (and_then (first bs) (then bs)) bs rest s after
+      go : (bs rest : List ℕ) → drop i bs ≡ (spelledA ++ spelledB) ++ rest → Agree bs i before → Written keep (both bs) bs rest s after
       go bs rest d g =
-          let w = part bs rest d g in
-          let a = step_good keepA (first bs) v j (sym e ∙ w.answer) in
-          rw a.parse ((f a.result a.kept).run bs rest (w.left a.result j a.parse) (w.stored a.result j a.parse))
+          let w = part (Ok x) h bs rest d g in
+          let a = step_good keepA (first bs) x.value x.next w.answer in
+          rw a.parse ((f a.result a.kept).run bs rest (w.left a.result x.next a.parse) (w.stored a.result x.next a.parse))
 
-written_map : {A B : Type 0} (f : A → B) (keepA : A → ℕ) (keep : B → ℕ) (o : Parsed A) (bs rest : List ℕ) (r : Step) (after : List ℕ) → ((a : A) → keepA a ≡ keep (f a))
-    → Written keepA o bs rest r after → Written keep (and_then o (λ a j. good (f a) j)) bs rest r after
-unfolding and_then step_of
-written_map f keepA keep (good a i) bs rest r after k w =
-    record {
-      answer = w.answer ∙ ap (λ (n : ℕ). Good n i) (k a);
-      stored = λ b j e. let h : i ≡ j = cc in subst (λ (x : ℕ). Agree bs x after) h (w.stored a i refl);
-      left = λ b j e. let h : i ≡ j = cc in subst (λ (x : ℕ). drop x bs ≡ rest) h (w.left a i refl);
-    }
-written_map f keepA keep (bad n p) bs rest r after k w =
-    record { answer = w.answer; stored = λ b j e. bad_is_not_good (bad n p) n p b j refl e; left = λ b j e. bad_is_not_good (bad n p) n p b j refl e }
+  -- where what the first part spells is its value
+  pub writes_exact : (x : Read V) (s : Result (Read W) Refused) (after : List ℕ) → Writes keepA first i spelledA before (Ok x) mid → (y : A)
+      → ((bs rest : List ℕ) (a : A) → drop i bs ≡ spelledA ++ rest → first bs ≡ good a x.next → a ≡ y) → Writes keep (λ bs. then bs y x.next) x.next spelledB mid s after
+      → Writes keep both i (spelledA ++ spelledB) before s after
+  writes_exact x s after h y pin f = record { run = λ bs rest d g. go bs rest d g }
+    where
+      go : (bs rest : List ℕ) → drop i bs ≡ (spelledA ++ spelledB) ++ rest → Agree bs i before → Written keep (both bs) bs rest s after
+      go bs rest d g =
+          let w = part (Ok x) h bs rest d g in
+          let a = step_good keepA (first bs) x.value x.next w.answer in
+          let same : a.result ≡ y = pin bs (spelledB ++ rest) a.result (d ∙ append_assoc spelledA spelledB rest) a.parse in
+          let p : first bs ≡ good y x.next = a.parse ∙ ap (λ (z : A). good z x.next) same in
+          subst (λ (o : Parsed B). Written keep o bs rest s after) (sym (and_then_good (first bs) (then bs) y x.next p))
+          (f.run bs rest (w.left a.result x.next a.parse) (w.stored a.result x.next a.parse))
 
-pub writes_map : {A B : Type 0} (f : A → B) (keepA : A → ℕ) (keep : B → ℕ) (parser : List ℕ → Parsed A) (i : ℕ) (spelled before : List ℕ) (r : Step) (after : List ℕ)
-    → ((a : A) → keepA a ≡ keep (f a)) → Writes keepA parser i spelled before r after → Writes keep (λ bs. and_then (parser bs) (λ a j. good (f a) j)) i spelled before r after
-writes_map f keepA keep parser i spelled before r after k h = record { run = λ bs rest d g. written_map f keepA keep (parser bs) bs rest r after k (h.run bs rest d g) }
+module _ {A B V : Type 0} (f : A → B) (keepA : A → V) (keep : B → V) where
+  written_map : (o : Parsed A) (bs rest : List ℕ) (r : Result (Read V) Refused) (after : List ℕ) → ((a : A) → keepA a ≡ keep (f a)) → Written keepA o bs rest r after
+      → Written keep (and_then o (λ a j. good (f a) j)) bs rest r after
+  unfolding and_then kept_of
+  written_map (good a i) bs rest r after k w =
+      record {
+        answer = w.answer ∙ ap (λ (v : V). good v i) (k a);
+        stored = λ b j e. let h : i ≡ j = cc in subst (λ (x : ℕ). Agree bs x after) h (w.stored a i refl);
+        left = λ b j e. let h : i ≡ j = cc in subst (λ (x : ℕ). drop x bs ≡ rest) h (w.left a i refl);
+      }
+  written_map (bad n p) bs rest r after k w =
+      record { answer = w.answer; stored = λ b j e. bad_is_not_good (bad n p) n p b j refl e; left = λ b j e. bad_is_not_good (bad n p) n p b j refl e }
+
+  pub writes_map : (parser : List ℕ → Parsed A) (i : ℕ) (spelled before : List ℕ) (r : Result (Read V) Refused) (after : List ℕ)
+      → ((a : A) → keepA a ≡ keep (f a)) → Writes keepA parser i spelled before r after → Writes keep (λ bs. and_then (parser bs) (λ a j. good (f a) j)) i spelled before r after
+  writes_map parser i spelled before r after k h = record { run = λ bs rest d g. written_map (parser bs) bs rest r after k (h.run bs rest d g) }
 
 -- the same, spelled otherwise
-pub writes_as : {A : Type 0} (keep : A → ℕ) (parser : List ℕ → Parsed A) (i : ℕ) (spelled spelled' before : List ℕ) (r : Step) (after : List ℕ) → spelled ≡ spelled'
-    → Writes keep parser i spelled before r after → Writes keep parser i spelled' before r after
+pub writes_as : {A V : Type 0} (keep : A → V) (parser : List ℕ → Parsed A) (i : ℕ) (spelled spelled' before : List ℕ) (r : Result (Read V) Refused) (after : List ℕ)
+    → spelled ≡ spelled' → Writes keep parser i spelled before r after → Writes keep parser i spelled' before r after
 writes_as keep parser i spelled spelled' before r after e h = subst (λ (xs : List ℕ). Writes keep parser i xs before r after) e h
 
 -- n values one after the other: k of them are written, and `todo` is spelled yet
@@ -164,58 +186,41 @@ module _ {A S : Type 0} (p : List ℕ → ℕ → Parsed A) (Kept : List A → S
       record { run = λ bs rest d g. record { parsed = begun (p bs) Kept nothing n i [] s h; left = d ∙ ap (λ (xs : List ℕ). xs ++ rest) e; stored = g } }
 
   module _ (k j : ℕ) (s : S) (todo now : List ℕ) (w : Writing k j s todo now) where
-    pub writing_more : (keep : A → ℕ) (piece todo' now' : List ℕ) (r : Step) (v next : ℕ) (s' : S) → k < n → todo ≡ piece ++ todo' → r ≡ Good v next
-        → Writes keep (λ bs. p bs j) j piece now r now' → ((a : A) → keep a ≡ v → (done : List A) → Kept done s → Kept (done ++ (a ∷ [])) s')
-        → Writing (k + 1) next s' todo' now'
-    writing_more keep piece todo' now' r v next s' h t e f step = record { run = λ bs rest d g. go bs rest d g }
+    pub writing_more : {V : Type 0} (keep : A → V) (piece todo' now' : List ℕ) (x : Read V) (s' : S) → k < n → todo ≡ piece ++ todo'
+        → Writes keep (λ bs. p bs j) j piece now (Ok x) now' → ((a : A) → keep a ≡ x.value → (done : List A) → Kept done s → Kept (done ++ (a ∷ [])) s')
+        → Writing (k + 1) x.next s' todo' now'
+    writing_more keep piece todo' now' x s' h t f step = record { run = λ bs rest d g. go bs rest d g }
       where
-        go : (bs rest : List ℕ) → drop i bs ≡ spelled ++ rest → Agree bs i before → Sofar (k + 1) next s' todo' now' bs rest
+        go : (bs rest : List ℕ) → drop i bs ≡ spelled ++ rest → Agree bs i before → Sofar (k + 1) x.next s' todo' now' bs rest
         go bs rest d g =
             let c = w.run bs rest d g in
-            let x = f.run bs (todo' ++ rest) (c.left ∙ ap (λ (xs : List ℕ). xs ++ rest) t ∙ append_assoc piece todo' rest) c.stored in
-            let a = step_good keep (p bs j) v next (sym e ∙ x.answer) in
+            let y = f.run bs (todo' ++ rest) (c.left ∙ ap (λ (xs : List ℕ). xs ++ rest) t ∙ append_assoc piece todo' rest) c.stored in
+            let a = step_good keep (p bs j) x.value x.next y.answer in
             record {
-              parsed = more (p bs) Kept nothing n i [] k j 0 s [] c.parsed a.result next 0 s' [] h a.parse refl (λ done m. step a.result a.kept done m) refl;
-              left = x.left a.result next a.parse;
-              stored = x.stored a.result next a.parse;
+              parsed = more (p bs) Kept nothing n i [] k j 0 s [] c.parsed a.result x.next 0 s' [] h a.parse refl (λ done m. step a.result a.kept done m) refl;
+              left = y.left a.result x.next a.parse;
+              stored = y.stored a.result x.next a.parse;
             }
 
-    pub writing_refused : (keep : A → ℕ) (whole : List A → ℕ) (piece todo' now' left : List ℕ) (r : Step) (m q : ℕ) → k < n → todo ≡ piece ++ todo' → r ≡ Bad m q
-        → Writes keep (λ bs. p bs j) j piece now r now' → Writes whole (λ bs. many n (p bs) i) i spelled before (Bad m q) left
-    writing_refused keep whole piece todo' now' left r m q h t e f = record { run = λ bs rest d g. go bs rest d g }
+    pub writing_refused : {V W : Type 0} (keep : A → V) (whole : List A → W) (piece todo' now' left : List ℕ) (e : Refused) → k < n → todo ≡ piece ++ todo'
+        → Writes keep (λ bs. p bs j) j piece now (Err e) now' → Writes whole (λ bs. many n (p bs) i) i spelled before (Err e) left
+    writing_refused keep whole piece todo' now' left e h t f = record { run = λ bs rest d g. go bs rest d g }
       where
-        go : (bs rest : List ℕ) → drop i bs ≡ spelled ++ rest → Agree bs i before → Written whole (many n (p bs) i) bs rest (Bad m q) left
+        go : (bs rest : List ℕ) → drop i bs ≡ spelled ++ rest → Agree bs i before → Written whole (many n (p bs) i) bs rest (Err e) left
         go bs rest d g =
             let c = w.run bs rest d g in
-            let x = f.run bs (todo' ++ rest) (c.left ∙ ap (λ (xs : List ℕ). xs ++ rest) t ∙ append_assoc piece todo' rest) c.stored in
-            written_bad whole _ bs rest m q left (refused (p bs) Kept nothing n i [] k j 0 s [] c.parsed m q h (step_bad keep (p bs j) m q (sym e ∙ x.answer)))
+            let y = f.run bs (todo' ++ rest) (c.left ∙ ap (λ (xs : List ℕ). xs ++ rest) t ∙ append_assoc piece todo' rest) c.stored in
+            written_bad whole _ bs rest left e (refused (p bs) Kept nothing n i [] k j 0 s [] c.parsed _ _ h (step_bad keep (p bs j) _ _ y.answer))
 
-    pub writing_ended : (whole : List A → ℕ) (v : ℕ) → ((done : List A) → Kept done s → whole done ≡ v) → n ≤ k → todo ≡ []
-        → Writes whole (λ bs. many n (p bs) i) i spelled before (Good v j) now
+    pub writing_ended : {V : Type 0} (whole : List A → V) (v : V) → ((done : List A) → Kept done s → whole done ≡ v) → n ≤ k → todo ≡ []
+        → Writes whole (λ bs. many n (p bs) i) i spelled before (Ok (record { value = v; next = j })) now
     writing_ended whole v f h t = record { run = λ bs rest d g. go bs rest d g }
       where
-        go : (bs rest : List ℕ) → drop i bs ≡ spelled ++ rest → Agree bs i before → Written whole (many n (p bs) i) bs rest (Good v j) now
+        go : (bs rest : List ℕ) → drop i bs ≡ spelled ++ rest → Agree bs i before → Written whole (many n (p bs) i) bs rest (Ok (record { value = v; next = j })) now
         go bs rest d g =
             let c = w.run bs rest d g in
-            written_good whole _ bs rest c.parsed.done v j now (ended (p bs) Kept nothing n i [] k j 0 s [] c.parsed h) (f c.parsed.done c.parsed.kept) c.stored
+            written_good whole _ bs rest now c.parsed.done v j (ended (p bs) Kept nothing n i [] k j 0 s [] c.parsed h) (f c.parsed.done c.parsed.kept) c.stored
             (c.left ∙ ap (λ (xs : List ℕ). xs ++ rest) t)
-
--- one part after another, where what the first part spells is its value
-pub writes_exact : {A B : Type 0} (keepA : A → ℕ) (keep : B → ℕ) (first : List ℕ → Parsed A) (then : List ℕ → A → ℕ → Parsed B) (i : ℕ) (spelledA spelledB before : List ℕ) (r : Step) (mid : List ℕ)
-    → Writes keepA first i spelledA before r mid → (v j : ℕ) (s : Step) (after : List ℕ) → r ≡ Good v j → (x : A)
-    → ((bs rest : List ℕ) (a : A) → drop i bs ≡ spelledA ++ rest → first bs ≡ good a j → a ≡ x) → Writes keep (λ bs. then bs x j) j spelledB mid s after
-    → Writes keep (λ bs. and_then (first bs) (then bs)) i (spelledA ++ spelledB) before s after
-writes_exact {A} {B} keepA keep first then i spelledA spelledB before r mid h v j s after e x pin f = record { run = λ bs rest d g. go bs rest d g }
-  where
-    go : (bs rest : List ℕ) → drop i bs ≡ (spelledA ++ spelledB) ++ rest → Agree bs i before → Written keep (and_then (first bs) (then bs)) bs rest s after
-    go bs rest d g =
-        let d' : drop i bs ≡ spelledA ++ (spelledB ++ rest) = d ∙ append_assoc spelledA spelledB rest in
-        let w = h.run bs (spelledB ++ rest) d' g in
-        let a = step_good keepA (first bs) v j (sym e ∙ w.answer) in
-        let same : a.result ≡ x = pin bs (spelledB ++ rest) a.result d' a.parse in
-        let p : first bs ≡ good x j = a.parse ∙ ap (λ (y : A). good y j) same in
-        subst (λ (o : Parsed B). Written keep o bs rest s after) (sym (and_then_good (first bs) (then bs) x j p))
-        (f.run bs rest (w.left a.result j a.parse) (w.stored a.result j a.parse))
 
 -- numbers that were parsed are those that are spelled
 pub spelled_numbers : (low high refusal n : ℕ) (bs xs rest as' : List ℕ) (i j : ℕ) → length xs ≡ n → drop i bs ≡ xs ++ rest → many n (byte bs low high refusal) i ≡ good as' j → as' ≡ xs

@@ -1,15 +1,16 @@
 -- What the writer's functions answer and leave: the parse of any bytes that spell the same, and a list that agrees with those bytes so far.
 -- Assumes nothing.
-use Rattle.std.specs.Prelude.{◌≡◌, Bool, List, ◌∷◌, ◌++◌, ℕ, ◌+◌, ◌/◌, ◌%◌, ◌≤◌, ◌<◌, length, get_or, drop, set}
+use Rattle.std.specs.Prelude.{◌≡◌, Bool, List, ◌∷◌, ◌++◌, ℕ, ◌+◌, ◌≤◌, ◌<◌, length, get_or, drop, Option, Result}
 use Rattle.model.specs.Limits.{last_version}
 use Rattle.model.specs.Lists.{collect, numbers_from}
 use Rattle.model.specs.Rules.{Atom, Rule, RuleSet, wide, most_predicates}
 use Rattle.model.specs.Format.{Parsed, good, and_then, many, byte, number, signed, atoms, number_bytes, atoms_bytes, rule_bytes, Signature}
 use Rattle.model.specs.Form.{arities_place, form_length, group_width, rule_width, spaced, group_at, rule_at}
-use Rattle.parsing.specs.Step.{step_of, atoms_set, Arities, parsed_rules}
+use Rattle.refusal.specs.declared.Refusal.{Refusal}
+use Rattle.refusal.specs.declared.Refused.{Refused}
+use Rattle.parsing.specs.Step.{parsed_of, kept_of, atoms_set, Arities, parsed_rules}
 use Rattle.parsing.specs.Heads.{fault}
-use Rattle.parsing.specs.declared.Step.{Step}
-use Rattle.parsing.specs.declared.Step.TheVariants.{Good}
+use Rattle.parsing.specs.declared.Parsed.{Parsed as Read}
 
 -- w numbers of a form stand from a place on, and `size` bytes have room from i on
 pub record Fits (at w i size : ℕ) (out : List ℕ) : Type 0 where
@@ -53,40 +54,25 @@ content_room = 9092
 pub record Agree (bs : List ℕ) (i : ℕ) (out : List ℕ) : Type 0 where
   pub at : (k : ℕ) → 4 ≤ k → k < i → get_or out k 0 ≡ get_or bs k 0
 
-pub record Written {A : Type 0} (keep : A → ℕ) (parsed : Parsed A) (bs rest : List ℕ) (r : Step) (out : List ℕ) : Type 0 where
-  pub answer : r ≡ step_of keep parsed
+pub record Written {A V : Type 0} (keep : A → V) (parsed : Parsed A) (bs rest : List ℕ) (r : Result (Read V) Refused) (out : List ℕ) : Type 0 where
+  pub answer : parsed_of r ≡ kept_of keep parsed
   pub stored : (a : A) (j : ℕ) → parsed ≡ good a j → Agree bs j out
   pub left : (a : A) (j : ℕ) → parsed ≡ good a j → drop j bs ≡ rest
 
 -- `spelled` stands at i of whatever bytes are parsed
-pub record Writes {A : Type 0} (keep : A → ℕ) (parser : List ℕ → Parsed A) (i : ℕ) (spelled before : List ℕ) (r : Step) (after : List ℕ) : Type 0 where
+pub record Writes {A V : Type 0} (keep : A → V) (parser : List ℕ → Parsed A) (i : ℕ) (spelled before : List ℕ) (r : Result (Read V) Refused) (after : List ℕ) : Type 0 where
   pub run : (bs rest : List ℕ) → drop i bs ≡ spelled ++ rest → Agree bs i before → Written keep (parser bs) bs rest r after
 
+-- a number is kept as it is
+abbrev pub value : ℕ → ℕ
+value n = n
+
 -- `count` disjuncts of the rule at a place, for whatever body has this set of variables; what is kept is the fault of the rule that has them
-abbrev pub WritesHead : List ℕ → ℕ → ℕ → ℕ → ℕ → ℕ → ℕ → List ℕ → Step → List ℕ → Type 0
+abbrev pub WritesHead : List ℕ → ℕ → ℕ → ℕ → ℕ → ℕ → ℕ → List ℕ → Result (Read (Option Refusal)) Refused → List ℕ → Type 0
 WritesHead form version n body count rule i before r after =
     (b : List Atom) → body ≡ atoms_set b
     → Writes (λ ds. fault (record { body = b; head = ds })) (λ bs. many count (atoms bs (signature_in form version n)) i) i
     (collect (atoms_bytes (wide version)) (spaced (group_at form (arities_in form n)) group_width count (rule + 22))) before r after
-
--- at most w bytes
-pub record Ends (r : Step) (i w : ℕ) : Type 0 where
-  pub most : (v j : ℕ) → r ≡ Good v j → j ≤ i + w
-
--- a number that is at most so high, as one byte
-pub record Took (r : Step) (v high i : ℕ) : Type 0 where
-  pub same : (u j : ℕ) → r ≡ Good u j → u ≡ v
-  pub most : (u j : ℕ) → r ≡ Good u j → v ≤ high
-  pub next : (u j : ℕ) → r ≡ Good u j → j ≡ i + 1
-
--- a number of the range
-pub record Ranged (r : Step) (v low high : ℕ) : Type 0 where
-  pub least : (u j : ℕ) → r ≡ Good u j → low ≤ v
-  pub most : (u j : ℕ) → r ≡ Good u j → v ≤ high
-
--- arities that were all written are at most 4
-pub record Small (r : Step) (arities : List ℕ) : Type 0 where
-  pub each : (v j : ℕ) → r ≡ Good v j → (p : ℕ) → get_or arities p 0 ≤ 4
 
 -- parts of model's `content`, `decoded` and `rule_set`
 
@@ -114,7 +100,3 @@ after_version bs version i = and_then (number (wide version) bs 1 (most_predicat
 
 unfoldable pub parsed_content : List ℕ → Parsed RuleSet
 parsed_content bs = and_then (byte bs 1 last_version 3 4) (λ v i. after_version bs v i)
-
--- a list with a length below 65536 in its first four places, big-endian
-abbrev pub lengthened : List ℕ → ℕ → List ℕ
-lengthened out n = set (set (set (set out 0 0) 1 0) 2 (n / 256)) 3 (n % 256)

@@ -11,8 +11,5 @@ use Rattle.writer.proofs.put_arities.Given as goal
 
 abbrev pub invariant-loop-k : goal.invariant-loop-k
 invariant-loop-k l =
-    (l.k ≤ l.n) × (l.j ≤ l.i + l.k) × (length l.out ≡ length l.initial.out) × ((p : ℕ) → p < l.k → get_or l.form (arities_place + p) 0 ≤ 4)
-    × Writing (λ bs. byte bs 1 4 4) Anything l.n l.i (numbers_from l.form arities_place l.n) l.initial.out l.k l.j 0 (numbers_from l.form (arities_place + l.k) (l.n - l.k)) l.out
-
-abbrev pub decreases-loop-k : goal.decreases-loop-k
-decreases-loop-k l = l.n - l.k
+    (l.end ≤ l.i + l.k) × (length l.out ≡ length l.initial.out) × ((p : ℕ) → p < l.k → get_or l.form (arities_place + p) 0 ≤ 4)
+    × Writing (λ bs. byte bs 1 4 4) Anything l.n l.i (numbers_from l.form arities_place l.n) l.initial.out l.k l.end tt (numbers_from l.form (arities_place + l.k) (l.n - l.k)) l.out

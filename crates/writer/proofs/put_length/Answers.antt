@@ -1,10 +1,8 @@
 -- `writer::put_length` meets its contract. Assumes nothing.
-use native.Mathlib.Omega.{arith}
-use lib.ListN.{length-set}
+use mathlib.Core.Path.{refl}
+use Rattle.model.specs.Format.{big_endian}
 use Rattle.writer.proofs.put_length.Goals as goal
 
-pub bounds-out-1 : goal.bounds-out-1
-bounds-out-1 c = simp length-set (omega arith)
-
-pub bounds-out-2 : goal.bounds-out-2
-bounds-out-2 c = simp length-set (omega arith)
+pub returns : goal.returns
+unfolding big_endian
+returns c = rw (c.copy_from_slice.ensures.after, c.to_be_bytes.ensures) refl

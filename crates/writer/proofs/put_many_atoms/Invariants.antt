@@ -12,7 +12,4 @@ use Rattle.writer.proofs.put_many_atoms.Given as goal
 
 abbrev pub invariant-loop-k : goal.invariant-loop-k
 invariant-loop-k l =
-    Turns (λ bs. atom bs (signed l.version (arities_in l.form l.n))) (λ as' s. atoms_set as' ≡ s) (atom_at l.form (arities_in l.form l.n)) (atom_bytes (wide l.version)) fact_width atom_room (l.group + 1) l.count l.i l.initial.out l.k l.j l.set l.out
-
-abbrev pub decreases-loop-k : goal.decreases-loop-k
-decreases-loop-k l = l.count - l.k
+    Turns (λ bs. atom bs (signed l.version (arities_in l.form l.n))) (λ as' s. atoms_set as' ≡ s) (atom_at l.form (arities_in l.form l.n)) (atom_bytes (wide l.version)) fact_width atom_room (l.group + 1) l.count l.i l.initial.out l.k l.end l.set l.out

@@ -10,7 +10,4 @@ use Rattle.writer.proofs.put_many_disjuncts.Given as goal
 
 abbrev pub invariant-loop-k : goal.invariant-loop-k
 invariant-loop-k l =
-    Turns (λ bs. atoms bs (signed l.version (arities_in l.form l.n))) (Keeps l.body) (group_at l.form (arities_in l.form l.n)) (atoms_bytes (wide l.version)) group_width group_room (l.rule + 22) l.count l.i l.initial.out l.k l.j l.heads l.out
-
-abbrev pub decreases-loop-k : goal.decreases-loop-k
-decreases-loop-k l = l.count - l.k
+    Turns (λ bs. atoms bs (signed l.version (arities_in l.form l.n))) (Keeps l.body) (group_at l.form (arities_in l.form l.n)) (atoms_bytes (wide l.version)) group_width group_room (l.rule + 22) l.count l.i l.initial.out l.k l.end l.heads l.out

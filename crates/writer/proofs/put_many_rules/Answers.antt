@@ -2,35 +2,33 @@
 use mathlib.Core.Path.{refl}
 use native.Mathlib.Omega.{arith}
 use Rattle.parsing.specs.Step.{none}
-use Rattle.writer.proofs.Writing.{ends_bad, ends_good}
+use Rattle.parsing.proofs.Parsing.{handed_on}
 use Rattle.writer.proofs.Turns.{turns_begun, turns_more, turns_refused, turns_ended}
 use Rattle.writer.proofs.put_many_rules.Goals as goal
 
-pub put_rule-requires : goal.put_rule-requires
-put_rule-requires c =
+pub loop-k-init : goal.loop-k-init
+loop-k-init c = turns_begun tt
+
+pub put_rule-requires-clause-fits : goal.put_rule-requires-clause-fits
+put_rule-requires-clause-fits c =
     let e = c.rule_place.ensures in
-    let h = c.loop-k.invariant in
+    let h = c.loop-k.invariant.most in
     let p = c.requires.rules_room_in_bounds in
-    record { declared = c.requires.declared; fits = record { within = omega arith; room = omega arith } }
+    record { within = omega arith; room = omega arith }
 
 pub loop-k-preserved : goal.loop-k-preserved
 loop-k-preserved c =
-    let p = c.put_rule in
     let e = c.rule_place.ensures in
-    turns_more c.loop-k.invariant none _ _ _ (omega arith) (omega arith) p.ensures.0 _ _ 0 c.in-Good.is p.ensures.1 p.auto.out
-    (λ r f rs m. tt)
+    let r = c.in_ok-end.ensures in
+    turns_more c.loop-k.invariant none _ _ (omega arith) (omega arith) _ _ r.written r.end c.put_rule.auto.out (λ r f rs m. tt)
 
-pub returns-in-Bad : goal.returns-in-Bad
-returns-in-Bad c =
-    let p = c.put_rule in
+pub returns-in_err-end-clause-written : goal.returns-in_err-end-clause-written
+returns-in_err-end-clause-written c =
     let e = c.rule_place.ensures in
-    (turns_refused c.loop-k.invariant none _ _ _ (omega arith) (omega arith) p.ensures.0 _ _ _ _ c.in-Bad.is, ends_bad _ _ _ _)
+    rw (handed_on c.from_residual.ensures.1) (turns_refused c.loop-k.invariant none _ _ (omega arith) (omega arith) _ _ _ c.in_err-end.ensures.written)
 
-pub returns : goal.returns
-returns c =
-    let h = c.loop-k.invariant in
-    let p = c.requires.rules_room_in_bounds in
-    (turns_ended h _ _ (λ rs m. refl) (omega arith), ends_good _ _ _ _ (omega arith))
+pub returns-clause-written : goal.returns-clause-written
+returns-clause-written c = turns_ended c.loop-k.invariant _ _ (λ rs m. refl) (omega arith)
 
-pub loop-k-init : goal.loop-k-init
-loop-k-init c = turns_begun tt
+pub returns-clause-end : goal.returns-clause-end
+returns-clause-end c = let h = c.loop-k.invariant.most in let p = c.requires.rules_room_in_bounds in omega arith

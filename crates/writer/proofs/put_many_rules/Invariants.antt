@@ -10,7 +10,4 @@ use Rattle.writer.proofs.put_many_rules.Given as goal
 
 abbrev pub invariant-loop-k : goal.invariant-loop-k
 invariant-loop-k l =
-    Turns (λ bs. rule bs (signed l.version (arities_in l.form l.n))) Anything (rule_at l.form (arities_in l.form l.n)) (rule_bytes (wide l.version)) rule_width rule_room 2 l.count l.i l.initial.out l.k l.j 0 l.out
-
-abbrev pub decreases-loop-k : goal.decreases-loop-k
-decreases-loop-k l = l.count - l.k
+    Turns (λ bs. rule bs (signed l.version (arities_in l.form l.n))) Anything (rule_at l.form (arities_in l.form l.n)) (rule_bytes (wide l.version)) rule_width rule_room 2 l.count l.i l.initial.out l.k l.end tt l.out

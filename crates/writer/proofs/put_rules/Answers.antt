@@ -1,27 +1,12 @@
--- `writer::put_rules` meets its contract: the count, and then so many rules. Assumes nothing.
-use native.Mathlib.Omega.{arith}
-use Rattle.writer.proofs.AtomWriting.{ends_within, ends_refused}
+-- `writer::put_rules` meets its contract: the count, and so many rules. Assumes nothing.
+use Rattle.parsing.proofs.Parsing.{handed_on}
 use Rattle.writer.proofs.ContentWriting.{rules_refused, rules_written}
 use Rattle.writer.proofs.put_rules.Goals as goal
 
-pub returns-in_default : goal.returns-in_default
-returns-in_default c = (rules_refused _ _ _ _ _ _ _ _ c.number.ensures c.put-first.ensures.0 _ _ _ c.in_default.is, ends_refused _ _ _ _ _ c.in_default.is)
+pub returns-in_err-count-clause-written : goal.returns-in_err-count-clause-written
+returns-in_err-count-clause-written c = rw (handed_on c.from_residual.ensures.1) (rules_refused _ _ _ _ _ _ _ c.number.ensures _ _ c.in_err-count.ensures.written)
 
-pub put_many_rules-requires : goal.put_many_rules-requires
-put_many_rules-requires c =
-    let t = c.put-first.ensures.1 in
-    let e = c.in-Good.is in
-    let same = t.same _ _ e in
-    let most = t.most _ _ e in
-    let next = t.next _ _ e in
-    let l = c.put-first.auto.out in
-    let h = c.requires.rules_room_in_bounds in
-    record { declared = c.requires.declared; rules_room_in_bounds = (omega arith, omega arith) }
-
-pub returns : goal.returns
-returns c =
-    let p = c.put-first in
-    let e = c.in-Good.is in
-    let t = p.ensures.1.next _ _ e in
-    let v = c.put_many_rules.ensures in
-    (rules_written _ _ _ _ _ _ _ _ c.number.ensures p.ensures.0 _ _ _ _ e p.ensures.1 v.0, ends_within _ _ _ _ _ v.1 (omega arith))
+pub returns-clause-written : goal.returns-clause-written
+returns-clause-written c =
+    let n = c.in_ok-count.ensures in
+    rules_written _ _ _ _ _ _ _ c.number.ensures _ _ _ n.written n.taken.0 (rw c.from.ensures at c.put_many_rules.ensures.written)

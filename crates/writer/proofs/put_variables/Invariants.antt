@@ -10,8 +10,5 @@ use Rattle.writer.proofs.put_variables.Given as goal
 
 abbrev pub invariant-loop-k : goal.invariant-loop-k
 invariant-loop-k l =
-    (l.k ≤ l.n) × (l.j ≤ l.i + l.k) × (length l.out ≡ length l.initial.out)
-    × Writing (λ bs. variable bs) (λ vs s. set_of vs ≡ s) l.n l.i (numbers_from l.form l.at l.n) l.initial.out l.k l.j l.set (numbers_from l.form (l.at + l.k) (l.n - l.k)) l.out
-
-abbrev pub decreases-loop-k : goal.decreases-loop-k
-decreases-loop-k l = l.n - l.k
+    (l.end ≤ l.i + l.k) × (length l.out ≡ length l.initial.out)
+    × Writing (λ bs. variable bs) (λ vs s. set_of vs ≡ s) l.n l.i (numbers_from l.form l.at l.n) l.initial.out l.k l.end l.set (numbers_from l.form (l.at + l.k) (l.n - l.k)) l.out

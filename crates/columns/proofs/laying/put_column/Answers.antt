@@ -2,7 +2,7 @@
 -- Assumes nothing.
 use mathlib.Core.Path.{◌≡◌, refl, sym, ap, ◌∙◌}
 use mathlib.Core.List.{List}
-use Prim.Native.Nat.{ℕ, ◌+◌, ◌-◌}
+use Prim.Native.Nat.{ℕ, ◌+◌, ◌-◌, ◌%◌}
 use native.Mathlib.Omega.{arith}
 use lib.ListN.{get_or}
 use lib.Seq.{sets}
@@ -51,12 +51,13 @@ loop-i-preserved c =
     let a = c.args in
     let x : ℕ = get_or a.table.now c.loop-i.place 0 in
     let rest : List ℕ = column_left a.table.now a.shape.width x (a.shape.count - (c.loop-i.i + 1)) (c.loop-i.place + a.shape.width) in
+    let same : x + (65536 - c.loop-i.above) ≡ x + 65536 - c.loop-i.above = omega (arith, c.loop-i.auto.above-fits) in
     record {
       turn = turn_next v.turn c.loop-i-test.true;
       long = c.put_number.auto.out ∙ v.long;
       left =
           ap (λ (o : List ℕ). sets o (c.loop-i.end + 2) rest) c.put_number.ensures
-          ∙ ap (λ (d : ℕ). sets (sets c.loop-i.out c.loop-i.end (two_bytes d)) (c.loop-i.end + 2) rest) c.difference.ensures
+          ∙ ap (λ (d : ℕ). sets (sets c.loop-i.out c.loop-i.end (two_bytes (d % 65536))) (c.loop-i.end + 2) rest) same
           ∙ column_step a.table.now a.shape.width c.loop-i.above (a.shape.count - c.loop-i.i) (a.shape.count - (c.loop-i.i + 1)) c.loop-i.place (c.loop-i.place + a.shape.width) c.loop-i.out c.loop-i.end (omega arith) refl
           ∙ v.left;
     }

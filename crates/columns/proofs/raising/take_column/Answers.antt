@@ -20,9 +20,6 @@ loop-i-init c =
       left = ap (λ (k : ℕ). placed a.shape.width (sums_left a.bytes.now 0 k a.at) a.j a.table.now) n;
     }
 
-pub number_at-requires : goal.number_at-requires
-number_at-requires c = let p = c.requires in omega arith
-
 pub offset_bounds-table-place : goal.offset_bounds-table-place
 offset_bounds-table-place c =
     let s = turn_stands c.loop-i.invariant.turn c.loop-i-test.true c.requires.column c.requires.records in
@@ -47,8 +44,8 @@ loop-i-preserved c =
       turn = turn_next v.turn c.loop-i-test.true;
       long = simp length-set v.long;
       left =
-          placed_step a.shape.width a.bytes.now n.above c.sum-above.result (a.shape.count - n.i) (a.shape.count - (n.i + 1)) n.next n.place n.table
-          (omega arith) (let p = c.requires in omega arith) (c.sum-above.ensures ∙ ap (sum n.above) c.number_at.ensures)
+          placed_step a.shape.width a.bytes.now n.above _ (a.shape.count - n.i) (a.shape.count - (n.i + 1)) n.next n.place n.table
+          (omega arith) (let p = c.requires in omega arith) (ap (sum n.above) c.number_at-above.ensures)
           ∙ v.left;
     }
 

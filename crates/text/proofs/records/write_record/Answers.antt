@@ -17,7 +17,7 @@ write_number-behind_head-requires c =
     let first : List ℕ = 32 ∷ decimal a.head in
     let others : List ℕ = spaced a.arguments.now in
     let roomy : Room ((first ++ others) ++ (10 ∷ [])) a.at a.out.now = c.requires in
-    room_first first others a.at a.out.now (room_first (first ++ others) (10 ∷ []) a.at a.out.now roomy)
+    rw c.from.ensures (room_first first others a.at a.out.now (room_first (first ++ others) (10 ∷ []) a.at a.out.now roomy))
 
 pub write_numbers-behind_arguments-requires : goal.write_numbers-behind_arguments-requires
 unfolding collect
@@ -27,7 +27,7 @@ write_numbers-behind_arguments-requires c =
     let others : List ℕ = spaced a.arguments.now in
     let roomy : Room ((first ++ others) ++ (10 ∷ [])) a.at a.out.now = c.requires in
     let n = c.write_number-behind_head in
-    room_behind others n.ensures (room_first (first ++ others) (10 ∷ []) a.at a.out.now roomy) n.auto.out
+    room_behind others (rw c.from.ensures at n.ensures) (room_first (first ++ others) (10 ∷ []) a.at a.out.now roomy) n.auto.out
 
 pub write_newline-requires : goal.write_newline-requires
 unfolding collect
@@ -38,9 +38,10 @@ write_newline-requires c =
     let roomy : Room ((first ++ others) ++ (10 ∷ [])) a.at a.out.now = c.requires in
     let m = c.write_numbers-behind_arguments in
     let n = c.write_number-behind_head in
-    room_behind (10 ∷ []) (writes_append n.ensures m.ensures (omega arith)) roomy (m.auto.out ∙ n.auto.out)
+    room_behind (10 ∷ []) (writes_append (rw c.from.ensures at n.ensures) m.ensures (omega arith)) roomy (m.auto.out ∙ n.auto.out)
 
 pub returns : goal.returns
 unfolding collect
 returns c =
-    writes_append (writes_append c.write_number-behind_head.ensures c.write_numbers-behind_arguments.ensures (omega arith)) c.write_newline.ensures (omega arith)
+    let n = rw c.from.ensures at c.write_number-behind_head.ensures in
+    writes_append (writes_append n c.write_numbers-behind_arguments.ensures (omega arith)) c.write_newline.ensures (omega arith)

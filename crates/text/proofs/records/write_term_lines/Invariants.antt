@@ -1,10 +1,7 @@
 -- `text::records::write_term_lines` meets its contract. The loop's invariant: the first `i` lines are written. Assumes nothing.
-use mathlib.Core.Path.{◌≡◌}
-use Prim.Native.Nat.{◌-◌, ◌≤◌}
-use lib.ListN.{length}
 use Rattle.text.specs.Writing.{Writes}
 use Rattle.text.specs.Lines.{term_lines}
 use Rattle.text.proofs.records.write_term_lines.Given as goal
 
 abbrev pub invariant-loop-i : goal.invariant-loop-i
-invariant-loop-i l = (l.i ≤ l.count) × Writes (term_lines l.terms l.i) l.at l.initial.out l.out l.o × (length l.out ≡ length l.initial.out)
+invariant-loop-i l = Writes (term_lines l.terms l.i) l.at l.initial.out l.out l.end

@@ -1,6 +1,4 @@
--- `text::words::write_numbers` meets its contract. The loop's invariant: the first `i` numbers are written.
--- Assumes nothing.
-use mathlib.Core.Path.{refl, ◌∙◌}
+-- `text::words::write_numbers` meets its contract. The loop's invariant: the numbers so far are written. Assumes nothing.
 use mathlib.Core.List.{◌∷◌}
 use Prim.Native.Nat.{ℕ}
 use native.Mathlib.Omega.{arith}
@@ -11,30 +9,21 @@ use Rattle.text.proofs.Writing.{writes_none, writes_append}
 use Rattle.text.proofs.Lines.{collect_more, collect_within}
 use Rattle.text.proofs.words.write_numbers.Goals as goal
 
-pub loop-i-init : goal.loop-i-init
+pub loop-n-init : goal.loop-n-init
 unfolding collect
-loop-i-init c =
-    let a = c.args in
-    (omega arith, writes_none a.at a.out.now, refl)
+loop-n-init c = writes_none c.args.at c.args.out.now
 
-pub write_number-o-requires : goal.write_number-o-requires
-write_number-o-requires c =
-    let e = c.loop-i.invariant.1.next in
-    let w = collect_within (λ (n : ℕ). 32 ∷ decimal n) c.args.numbers.now c.loop-i.i c.loop-i-test.true in
-    omega arith
+pub write_number-end-requires : goal.write_number-end-requires
+write_number-end-requires c =
+    let e = c.loop-n.invariant.next in
+    let l = c.loop-n.auto.out in
+    let w = collect_within (λ (n : ℕ). 32 ∷ decimal n) c.args.numbers.now c.loop-n.n-index c.loop-n-test.true in
+    rw c.from.ensures (omega arith)
 
-pub loop-i-preserved : goal.loop-i-preserved
-loop-i-preserved c = (
-  omega arith,
-  rw (collect_more (λ (n : ℕ). 32 ∷ decimal n) c.args.numbers.now c.loop-i.i (omega arith))
-      (writes_append c.loop-i.invariant.1 c.write_number-o.ensures (omega arith)),
-  c.write_number-o.auto.out ∙ c.loop-i.invariant.2,
-)
-
-pub shape_of-out : goal.shape_of-out
-shape_of-out c = c.loop-i.invariant.2
+pub loop-n-preserved : goal.loop-n-preserved
+loop-n-preserved c =
+    rw (collect_more (λ (n : ℕ). 32 ∷ decimal n) c.args.numbers.now c.loop-n.n-index c.loop-n-test.true)
+    (writes_append c.loop-n.invariant (rw c.from.ensures at c.write_number-end.ensures) (omega arith))
 
 pub returns : goal.returns
-returns c =
-    let a = c.args in
-    rw (take_all c.loop-i.i a.numbers.now c.loop-i-test.false) at c.loop-i.invariant.1
+returns c = rw (take_all c.loop-n.n-index c.args.numbers.now c.loop-n-test.false) at c.loop-n.invariant
