@@ -1,15 +1,14 @@
 -- Arrays of four as the code fills them, one atom or one disjunct after the other, and the row of an atom. Assumes nothing.
-use mathlib.Core.Path.{◌≡◌, refl, sym, ap, ap₂, ◌∙◌, subst}
+use mathlib.Core.Path.{◌≡◌, refl, sym, ap, ap₂, ◌∙◌}
 use mathlib.Core.Logic.{inl, inr}
 use mathlib.Core.List.{List, [], ◌∷◌, map}
 use Prim.Native.Nat.{ℕ, ◌+◌, ◌-◌, ◌≤◌, ◌<◌}
 use native.Mathlib.Omega.{arith}
 use native.Mathlib.Numerals.{add-one}
-use lib.ListN.{length-append, get_or-eq_default, length, get_or, set, replicate, length-map, length-set, get_or-append}
-use borrow.Author.Count.{below_more}
+use lib.ListN.{length-append, get_or-eq_default, length, get_or, set, replicate, length-map, get_or-append}
 use Rattle.std.proofs.lemmas.Bool.{cases_lt}
 use Rattle.std.proofs.lemmas.List.{get_or-replicate, length-replicate}
-use lib.Seq.{ext_get_or, get_or-set_same, get_or-append_right, get_or-set_other}
+use lib.Seq.{ext_get_or, get_or-append_right}
 use Rattle.model.specs.Lists.{numbers_from, padded}
 use Rattle.model.specs.Rules.{Atom}
 use Rattle.model.specs.Limits.{fact_width}
@@ -39,26 +38,6 @@ filled_at_lem g z ys d y w h = get_or-append (map g ys) (replicate (4 - length (
 
 get_or_same : {A : Type 0} (n : ℕ) (z : A) (k : ℕ) → get_or (replicate n z) k z ≡ z
 get_or_same n z k = elim (cases_lt k n) [ inl h ↦ get_or-replicate n k z z h | inr h ↦ get_or-eq_default (replicate n z) z (omega (arith, length-replicate n z)) ]
-
-pub returned : {R : Type 0} {post : Bor (List ℕ) → ℕ → R → Type 0} (lent : Bor (List ℕ)) (at : ℕ) {p : ℕ} {x : R} → p ≡ at → post lent p x → Returned post lent.now at x
-returned {post = post} lent at {x = x} e r = record { lent = lent; same = refl; by = subst (λ (q : ℕ). post lent q x) e r }
-
--- a loop has given the first k of four values
-module _ {A : Type 0} {gives : ℕ → A → Type 0} {z : A} where
-  pub each_first : Each gives 0 z (replicate 4 z)
-  each_first = record { four = refl; each = λ k h. absurd (omega arith); rest = λ k h. get_or_same 4 z k }
-
-  pub each_more : {k : ℕ} {xs : List A} {x : A} → k < 4 → Each gives k z xs → gives k x → Each gives (k + 1) z (set xs k x)
-  each_more {k} {xs} {x} h e here =
-      let four = e.four in
-      let set' : List A = set xs k x in
-      record {
-        four = length-set xs k x ∙ four;
-        each =
-            below_more (λ j. gives j (get_or set' j z)) k (λ j l. subst (gives j) (sym (get_or-set_other xs k j x z (λ q. omega arith))) (e.each j l))
-            (subst (gives k) (sym (get_or-set_same xs k x z (omega arith))) here);
-        rest = λ j l. get_or-set_other xs k j x z (λ q. omega arith) ∙ e.rest j (omega arith);
-      }
 
 -- four values are those of a list and then z
 pub each_filled : {A B : Type 0} (g : A → B) (z : B) (ys : List A) (d : A) {xs : List B} → length ys ≤ 4

@@ -8,14 +8,9 @@ use Rattle.form.proofs.Places.{count_variables, atom_declared}
 use Rattle.form.proofs.atoms.arity_at.Goals as goal
 
 pub arity-requires : goal.arity-requires
-arity-requires c =
-    let s = c in
-    let f = s.args.form.now in
-    let w = c.from.ensures in
-    (s.requires.held, omega (arith, atom_declared f s.args.at s.requires))
+arity-requires c = (c.requires.held, omega (arith, c.from.ensures, atom_declared c.args.form.now c.args.at c.requires))
 
 pub returns : goal.returns
 returns c =
-    let s = c in
-    let f = s.args.form.now in
-    c.arity.ensures ∙ ap (λ (p : ℕ). get_or (arities_of f) p 0) c.from.ensures ∙ sym (count_variables f s.args.at)
+    let form = c.args.form.now in
+    c.arity.ensures ∙ ap (λ (p : ℕ). get_or (arities_of form) p 0) c.from.ensures ∙ sym (count_variables form c.args.at)

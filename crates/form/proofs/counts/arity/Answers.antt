@@ -7,14 +7,15 @@ use Rattle.form.proofs.Places.{arity_place_is, few_predicates}
 use Rattle.form.proofs.counts.arity.Goals as goal
 
 pub arity_place-at-requires : goal.arity_place-at-requires
-arity_place-at-requires c = let s = c in omega (arith, few_predicates s.args.form.now s.requires.0)
+arity_place-at-requires c = omega (arith, few_predicates c.args.form.now c.requires.0)
 
 pub offset_bounds-form-at : goal.offset_bounds-form-at
-offset_bounds-form-at c = let s = c in omega (arith, few_predicates s.args.form.now s.requires.0)
+offset_bounds-form-at c = omega (arith, few_predicates c.args.form.now c.requires.0)
 
 pub bounds-form-at : goal.bounds-form-at
-bounds-form-at c = let s = c in omega (arith, few_predicates s.args.form.now s.requires.0)
+bounds-form-at c = omega (arith, few_predicates c.args.form.now c.requires.0)
 
 pub returns : goal.returns
-returns c = let s = c in
-    c.from.ensures ∙ ap (λ (p : ℕ). get_or s.args.form.now p 0) c.arity_place-at.ensures ∙ sym (arity_place_is s.args.form.now s.args.p s.requires.1)
+returns c =
+    let form = c.args.form.now in
+    c.from.ensures ∙ ap (λ (p : ℕ). get_or form p 0) c.arity_place-at.ensures ∙ sym (arity_place_is form c.args.p c.requires.1)

@@ -16,5 +16,6 @@ pub bounds-form-at : goal.bounds-form-at
 bounds-form-at c = omega (arith, rule_below c.requires)
 
 pub returns : goal.returns
-returns c = let s = c in
-    c.from.ensures ∙ ap (λ (p : ℕ). get_or s.args.form.now p 0) c.rule_place-at.ensures ∙ sym (count_disjuncts s.args.form.now s.args.i s.requires.1)
+returns c =
+    let form = c.args.form.now in
+    c.from.ensures ∙ ap (λ (p : ℕ). get_or form p 0) c.rule_place-at.ensures ∙ sym (count_disjuncts form c.args.i c.requires.1)

@@ -4,4 +4,4 @@ use Rattle.form.proofs.Places.{count_atoms}
 use Rattle.form.proofs.counts.group_count.Goals as goal
 
 pub returns : goal.returns
-returns c = let s = c in c.from.ensures ∙ sym (count_atoms s.args.form.now s.args.at)
+returns c = c.from.ensures ∙ sym (count_atoms c.args.form.now c.args.at)
