@@ -27,9 +27,6 @@ copy_variable-copied-requires c =
     let all = subst (λ (d : Copies). Room 12 a.table.now d.terms) (sym (chosen_all (rows 10 a.count a.terms.now) a.count a.variables (value_of a.assignment) (rows_length 10 a.count a.terms.now))) c.requires.2.room in
     rw c.from.ensures (c.requires.0, h, λ e. c.requires.1 c.loop-v.v h e, record { kept = c.loop-v.invariant.5; room = room_same c.loop-v.table c.loop-v.invariant.1 (chosen_room (rows 10 a.count a.terms.now) a.count a.variables (value_of a.assignment) c.loop-v.v h (rows 10 c.loop-v.n c.loop-v.table) c.loop-v.invariant.3 all) })
 
-pub loop-v-smaller : goal.loop-v-smaller
-loop-v-smaller c = let t = c.loop-v-test.true in omega arith
-
 pub loop-v-preserved : goal.loop-v-preserved
 loop-v-preserved c =
     let a = c.args in
@@ -45,9 +42,6 @@ loop-v-preserved c =
       λ w k. ap (λ (r : List ℕ). get_or r w 0) d.ensures.1 ∙ each.1 w k,
       d.ensures.0.kept,
     )
-
-pub shape_of-table : goal.shape_of-table
-shape_of-table c = c.loop-v.invariant.1
 
 pub returns : goal.returns
 returns c =

@@ -19,14 +19,6 @@ overflow_sub-next c =
     let d = c.copy-m in
     (copy_number a.count (rows 10 a.count a.terms.now) a.i (rows 10 a.n a.table.now) a.table.now d.new.table d.result (subst (TakesTerms a.table.now a.n) (copied_at_yes (rows 10 a.count a.terms.now) a.count a.variables a.v a.i (rows 10 a.n a.table.now) (sym c.contains.ensures ∙ c.if-contains.true)) c.requires.3).room d.ensures.rows).0
 
-pub overflow_cast-next : goal.overflow_cast-next
-overflow_cast-next c =
-    let a = c.args in
-    let d = c.copy-m in
-    let b : (1 ≤ d.result) × (d.result < 65536) =
-    copy_number a.count (rows 10 a.count a.terms.now) a.i (rows 10 a.n a.table.now) a.table.now d.new.table d.result (subst (TakesTerms a.table.now a.n) (copied_at_yes (rows 10 a.count a.terms.now) a.count a.variables a.v a.i (rows 10 a.n a.table.now) (sym c.contains.ensures ∙ c.if-contains.true)) c.requires.3).room d.ensures.rows in
-    record { fits = omega arith }
-
 pub returns-then-contains : goal.returns-then-contains
 returns-then-contains c =
     let a = c.args in

@@ -12,9 +12,6 @@ use Rattle.terms.proofs.Kept.{term_appended}
 use Rattle.rows.specs.Copies.{constant_row}
 use Rattle.origins.proofs.add_constants.Goals as goal
 
-pub loop-i-init : goal.loop-i-init
-loop-i-init c = let a = c.args in (omega arith, refl, sym (append-nil (rows 10 a.n a.table.now)), c.requires.kept)
-
 pub append_term-requires : goal.append_term-requires
 append_term-requires c =
     let a = c.args in
@@ -22,17 +19,6 @@ append_term-requires c =
     let q = c.loop-i.invariant.1 in
     let (fits, few) = constants_room a.n a.table.now a.k c.loop-i.table (room_same c.loop-i.table q c.requires.room) c.loop-i.m c.loop-i.table c.loop-i.i c.loop-i.invariant.2 h in
     (c.loop-i.invariant.3, fits, few, refl)
-
-pub overflow_add-m : goal.overflow_add-m
-overflow_add-m c =
-    let a = c.args in
-    let h = c.loop-i-test.true in
-    let q = c.loop-i.invariant.1 in
-    let b = constants_room a.n a.table.now a.k a.table.now c.requires.room c.loop-i.m c.loop-i.table c.loop-i.i c.loop-i.invariant.2 h in
-    record { fits = omega arith }
-
-pub loop-i-smaller : goal.loop-i-smaller
-loop-i-smaller c = let h = c.loop-i-test.true in omega arith
 
 pub loop-i-preserved : goal.loop-i-preserved
 loop-i-preserved c =
@@ -49,12 +35,3 @@ loop-i-preserved c =
           ∙ constants_more c.loop-i.i (rows 10 a.n a.table.now)),
       rw (add-one c.loop-i.m) more.1,
     )
-
-pub shape_of-table : goal.shape_of-table
-shape_of-table c = c.loop-i.invariant.1
-
-pub returns : goal.returns
-returns c =
-    let a = c.args in
-    let e : c.loop-i.i ≡ a.k = omega arith in
-    record { rows = c.loop-i.invariant.2 ∙ ap (λ (i : ℕ). rows 10 a.n a.table.now ++ replicate i constant_row) e; kept = c.loop-i.invariant.3 }

@@ -16,14 +16,6 @@ use Rattle.disjuncts.proofs.Decoded.{atoms_sound}
 use Rattle.origins.proofs.Entering.{origin_entered, origin_room}
 use Rattle.origins.proofs.enter_origin.Goals as goal
 
-pub origin_numbers-names-requires : goal.origin_numbers-names-requires
-origin_numbers-names-requires c =
-    let a = c.args in
-    let f = c.requires.3.room.kept.fits in
-    let h : a.j < a.n = c.requires.1 in
-    let b : suc a.j * 10 ≤ length a.table.now = omega arith in
-    (b, c.requires.2)
-
 pub add_constants-added-requires : goal.add_constants-added-requires
 add_constants-added-requires c =
     let a = c.args in

@@ -19,11 +19,6 @@ use Rattle.origins.specs.Origin.{origin_step, disjuncts_in, origins_in}
 use Rattle.origins.proofs.Origins.{stays_start, stays_row, stays_more, stays_function, origins_more, origins_none, origins_room}
 use Rattle.origins.proofs.enter_origins.Goals as goal
 
-pub loop-j-init : goal.loop-j-init
-loop-j-init c =
-    let a = c.args in
-    (omega arith, c.requires.2.kept, refl, refl, stays_start a.n a.table.now, refl, c.requires.2.room.kept)
-
 pub origin_of-entered-requires : goal.origin_of-entered-requires
 origin_of-entered-requires c =
     let a = c.args in
@@ -49,9 +44,6 @@ origin_of-entered-requires c =
       },
     )
 
-pub loop-j-smaller : goal.loop-j-smaller
-loop-j-smaller c = let h = c.loop-j-test.true in omega arith
-
 pub loop-j-preserved : goal.loop-j-preserved
 loop-j-preserved c =
     let a = c.args in
@@ -68,12 +60,6 @@ loop-j-preserved c =
           ∙ c.loop-j.invariant.5,
       d.ensures.found,
     )
-
-pub shape_of-table : goal.shape_of-table
-shape_of-table c = c.loop-j.invariant.2
-
-pub shape_of-facts : goal.shape_of-facts
-shape_of-facts c = c.loop-j.invariant.3
 
 pub returns : goal.returns
 returns c =
