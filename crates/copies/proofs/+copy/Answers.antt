@@ -1,7 +1,7 @@
 -- `copies::copy` meets its contract. The term number falls from a term to its arguments. The loop's invariant: the arguments passed are copied,
 -- and the row has their numbers. Assumes nothing.
 use mathlib.Core.Path.{◌≡◌, refl, ◌∙◌}
-use Prim.Native.Nat.{ℕ, ◌-◌, ◌<◌, ◌≤◌}
+use Prim.Native.Nat.{◌-◌, ◌<◌}
 use native.Mathlib.Numerals.{add-one}
 use native.Mathlib.Omega.{arith}
 use Rattle.tables.specs.Terms.{copied_arity}

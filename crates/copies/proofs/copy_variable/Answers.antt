@@ -1,7 +1,5 @@
 -- `copies::copy_variable` meets its contract: by what `copy` ensures, for a variable of the set. Assumes nothing.
 use mathlib.Core.Path.{sym, ◌∙◌, subst}
-use Prim.Native.Nat.{◌≤◌, ◌<◌}
-use native.Mathlib.Omega.{arith}
 use Rattle.tables.specs.Rows.{rows}
 use Rattle.facts.specs.Room.{TakesTerms}
 use Rattle.copies.proofs.Chosen.{copied_at_yes, copied_at_no, numbered_at_yes, numbered_at_no, copy_number}

@@ -1,8 +1,5 @@
 -- `origins::enter_origin` meets its contract: by what its steps ensure. Assumes nothing.
 use mathlib.Core.Path.{sym, ◌∙◌, subst}
-use Prim.Native.Nat.{suc, ◌*◌, ◌≤◌, ◌<◌}
-use native.Mathlib.Omega.{arith}
-use lib.ListN.{length}
 use Rattle.model.specs.Lists.{row}
 use Rattle.rows.specs.Tables.{Rows}
 use Rattle.tables.specs.Rows.{rows}

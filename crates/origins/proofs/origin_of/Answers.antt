@@ -1,6 +1,5 @@
 -- `origins::origin_of` meets its contract: by the owner of the term's Skolem function. Assumes nothing.
 use mathlib.Core.Path.{sym, ap, ◌∙◌, subst}
-use Prim.Native.Nat.{◌<◌}
 use native.Mathlib.Omega.{arith}
 use Rattle.rows.specs.Tables.{Rows}
 use Rattle.tables.specs.Rows.{rows}
