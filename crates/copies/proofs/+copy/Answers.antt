@@ -1,7 +1,7 @@
 -- `copies::copy` meets its contract. The term number falls from a term to its arguments. The loop's invariant: the arguments passed are copied,
 -- and the row has their numbers. Assumes nothing.
 use mathlib.Core.Path.{◌≡◌, refl, ◌∙◌}
-use Prim.Native.Nat.{ℕ, ◌-◌, ◌<◌, ◌≤◌}
+use Prim.Native.Nat.{◌-◌, ◌<◌}
 use native.Mathlib.Numerals.{add-one}
 use native.Mathlib.Omega.{arith}
 use Rattle.tables.specs.Terms.{copied_arity}
@@ -40,12 +40,6 @@ overflow_sub-row t c =
     let k : c.loop-j.j < copied_arity c.args.terms.now c.args.i = omega arith in
     (copied_number c.requires.0 c.args.i c.requires.1 c.loop-j.invariant.3 c.requires.2.room k c.copy-m.result c.copy-m.new.table (rw c.argument.ensures at c.copy-m.ensures.rows)).0
 
-pub bounds-row-j : goal.bounds-row-j
-bounds-row-j t c = let k = c.loop-j-test.true in omega arith
-
-pub loop-j-smaller : goal.loop-j-smaller
-loop-j-smaller t c = let k = c.loop-j-test.true in omega arith
-
 pub loop-j-preserved : goal.loop-j-preserved
 loop-j-preserved t c =
     let e = c.loop-j.invariant.0 in
@@ -64,14 +58,6 @@ append_term-requires t c =
     let k : c.loop-j.j ≡ copied_arity c.args.terms.now c.args.i = omega arith in
     let (fits, few) = copied_last c.requires.0 c.args.i c.requires.1 c.loop-j.invariant.3 (room_same c.loop-j.table c.loop-j.invariant.2 c.requires.2.room) k in
     (c.loop-j.invariant.4, fits, few, copied_length c.requires.0 c.args.i c.requires.1 c.loop-j.invariant.3)
-
-pub overflow_add-result : goal.overflow_add-result
-overflow_add-result t c =
-    let e = c.loop-j.invariant.0 in
-    let w = c.loop-j.invariant.3.within in
-    let k : c.loop-j.j ≡ copied_arity c.args.terms.now c.args.i = omega arith in
-    let b = copied_last c.requires.0 c.args.i c.requires.1 c.loop-j.invariant.3 c.requires.2.room k in
-    record { fits = omega arith }
 
 pub returns : goal.returns
 returns t c =

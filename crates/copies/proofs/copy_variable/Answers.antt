@@ -1,7 +1,5 @@
 -- `copies::copy_variable` meets its contract: by what `copy` ensures, for a variable of the set. Assumes nothing.
 use mathlib.Core.Path.{sym, ◌∙◌, subst}
-use Prim.Native.Nat.{◌≤◌, ◌<◌}
-use native.Mathlib.Omega.{arith}
 use Rattle.tables.specs.Rows.{rows}
 use Rattle.facts.specs.Room.{TakesTerms}
 use Rattle.copies.proofs.Chosen.{copied_at_yes, copied_at_no, numbered_at_yes, numbered_at_no, copy_number}
@@ -18,14 +16,6 @@ overflow_sub-next c =
     let a = c.args in
     let d = c.copy-m in
     (copy_number a.count (rows 10 a.count a.terms.now) a.i (rows 10 a.n a.table.now) a.table.now d.new.table d.result (subst (TakesTerms a.table.now a.n) (copied_at_yes (rows 10 a.count a.terms.now) a.count a.variables a.v a.i (rows 10 a.n a.table.now) (sym c.contains.ensures ∙ c.if-contains.true)) c.requires.3).room d.ensures.rows).0
-
-pub overflow_cast-next : goal.overflow_cast-next
-overflow_cast-next c =
-    let a = c.args in
-    let d = c.copy-m in
-    let b : (1 ≤ d.result) × (d.result < 65536) =
-    copy_number a.count (rows 10 a.count a.terms.now) a.i (rows 10 a.n a.table.now) a.table.now d.new.table d.result (subst (TakesTerms a.table.now a.n) (copied_at_yes (rows 10 a.count a.terms.now) a.count a.variables a.v a.i (rows 10 a.n a.table.now) (sym c.contains.ensures ∙ c.if-contains.true)) c.requires.3).room d.ensures.rows in
-    record { fits = omega arith }
 
 pub returns-then-contains : goal.returns-then-contains
 returns-then-contains c =

@@ -1,8 +1,5 @@
 -- `origins::enter_origin` meets its contract: by what its steps ensure. Assumes nothing.
 use mathlib.Core.Path.{sym, ◌∙◌, subst}
-use Prim.Native.Nat.{suc, ◌*◌, ◌≤◌, ◌<◌}
-use native.Mathlib.Omega.{arith}
-use lib.ListN.{length}
 use Rattle.model.specs.Lists.{row}
 use Rattle.rows.specs.Tables.{Rows}
 use Rattle.tables.specs.Rows.{rows}
@@ -15,14 +12,6 @@ use Rattle.rows.specs.Copies.{arguments_in}
 use Rattle.disjuncts.proofs.Decoded.{atoms_sound}
 use Rattle.origins.proofs.Entering.{origin_entered, origin_room}
 use Rattle.origins.proofs.enter_origin.Goals as goal
-
-pub origin_numbers-names-requires : goal.origin_numbers-names-requires
-origin_numbers-names-requires c =
-    let a = c.args in
-    let f = c.requires.3.room.kept.fits in
-    let h : a.j < a.n = c.requires.1 in
-    let b : suc a.j * 10 ≤ length a.table.now = omega arith in
-    (b, c.requires.2)
 
 pub add_constants-added-requires : goal.add_constants-added-requires
 add_constants-added-requires c =

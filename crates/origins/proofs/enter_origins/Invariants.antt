@@ -1,7 +1,7 @@
 -- `origins::enter_origins` meets its contract. The loop's invariant: the rows that are gone through stay, and the origins of those that are left
 -- give what is to be given. Assumes nothing.
 use mathlib.Core.Path.{◌≡◌}
-use Prim.Native.Nat.{◌-◌, ◌≤◌}
+use Prim.Native.Nat.{◌-◌}
 use lib.ListN.{length, drop}
 use Rattle.tables.specs.Rows.{rows}
 use Rattle.tables.specs.TermHash.{KeptTerms}
@@ -14,8 +14,7 @@ use Rattle.origins.proofs.enter_origins.Given as goal
 
 abbrev pub invariant-loop-j : goal.invariant-loop-j
 invariant-loop-j l =
-    (l.j ≤ l.n)
-    × Kept l.facts l.b l.limit
+    Kept l.facts l.b l.limit
     × (length l.table ≡ length l.initial.table)
     × (length l.facts ≡ length l.initial.facts)
     × Stays (rows 10 l.n l.initial.table) l.table l.a

@@ -10,9 +10,6 @@ use Rattle.outputs.specs.Skolem.{number_limit}
 use Rattle.origins.proofs.Template.{origin_frontier, origin_other, origin_none}
 use Rattle.origins.proofs.origin_number.Goals as goal
 
-pub rank-requires : goal.rank-requires
-rank-requires c = (c.requires.0, (sym c.contains.ensures ∙ c.if-contains.true))
-
 pub origin_argument-requires : goal.origin_argument-requires
 origin_argument-requires c =
     let a = c.args in
@@ -26,9 +23,6 @@ pub returns-then-contains : goal.returns-then-contains
 returns-then-contains c =
     let a = c.args in
     c.origin_argument.ensures ∙ ap (λ (k : ℕ). get_or (arguments_in (row 10 a.j a.table.now)) k 0) c.rank.ensures ∙ sym (origin_frontier a.frontier a.others (arguments_in (row 10 a.j a.table.now)) a.base a.v (sym c.contains.ensures ∙ c.if-contains.true))
-
-pub rank-requires-then-contains-2 : goal.rank-requires-then-contains-2
-rank-requires-then-contains-2 c = (c.requires.0, (sym c.contains-2.ensures ∙ c.if-contains-2.true))
 
 -- at most eight variables are in a set
 below : (c : goal.After-rank-then-contains-2) → c.rank-then-contains-2.result < 8

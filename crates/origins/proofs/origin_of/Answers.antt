@@ -1,6 +1,5 @@
 -- `origins::origin_of` meets its contract: by the owner of the term's Skolem function. Assumes nothing.
 use mathlib.Core.Path.{sym, ap, ◌∙◌, subst}
-use Prim.Native.Nat.{◌<◌}
 use native.Mathlib.Omega.{arith}
 use Rattle.rows.specs.Tables.{Rows}
 use Rattle.tables.specs.Rows.{rows}
@@ -11,13 +10,6 @@ use Rattle.facts.proofs.Kept.{kept_within}
 use Rattle.origins.specs.Origin.{disjuncts_in}
 use Rattle.origins.proofs.Origins.{cut_twice, step_none, step_owned}
 use Rattle.origins.proofs.origin_of.Goals as goal
-
-pub bounds-table-j : goal.bounds-table-j
-bounds-table-j c =
-    let a = c.args in
-    let f = c.requires.1.room.kept.fits in
-    let h : a.j < a.n = c.requires.0.within in
-    omega arith
 
 pub returns-then-f-eq0 : goal.returns-then-f-eq0
 returns-then-f-eq0 c =
@@ -31,10 +23,6 @@ returns-then-f-eq0 c =
       found = c.requires.1.room.kept;
       kept = c.requires.1.kept;
     }
-
-pub owner_of-owner-requires : goal.owner_of-owner-requires
-owner_of-owner-requires c =
-    (c.requires.0.held, c.requires.0.numbered, omega arith, c.requires.0.function)
 
 pub enter_origin-requires : goal.enter_origin-requires
 enter_origin-requires c =

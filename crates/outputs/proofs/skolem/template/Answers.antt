@@ -18,20 +18,19 @@ overflow_cast-row c =
 pub loop-v-init : goal.loop-v-init
 loop-v-init c =
     let a = c.args in
-    (omega arith, rw c.set_size.ensures (filled_up_none a.frontier (value_of a.numbers)), let e = ap length (below_none a.frontier) in omega arith)
+    (rw c.set_size.ensures (filled_up_none a.frontier (value_of a.numbers)), let e = ap length (below_none a.frontier) in omega arith)
 
 pub bounds-row-place : goal.bounds-row-place
 bounds-row-place c =
     let b = below_length c.args.frontier c.loop-v.v in
-    omega (arith, c.loop-v.invariant.2)
+    omega (arith, c.loop-v.invariant.1)
 
 pub loop-v-preserved : goal.loop-v-preserved
 loop-v-preserved c =
     let a = c.args in
     let α : ℕ → ℕ = value_of a.numbers in
     let told = c.contains.ensures in
-    let (h, row, place) = c.loop-v.invariant in (
-      omega arith,
+    let (row, place) = c.loop-v.invariant in (
       elim c.if-contains.branch [
         | goal.then-contains w ↦ w.row-is ∙ ap₂ (λ (xs : List ℕ) (p : ℕ). set xs p (α c.loop-v.v)) row place ∙ filled_up_more a.frontier α c.loop-v.v (omega arith) (sym told ∙ w.if-contains.true)
         | goal.else-contains w ↦ w.row-is ∙ row ∙ filled_up_same a.frontier α c.loop-v.v (sym told ∙ w.if-contains.false)
@@ -46,10 +45,10 @@ pub returns : goal.returns
 returns c =
     let a = c.args in
     let e : c.loop-v.v ≡ 8 = omega arith in
-    c.loop-v.invariant.1 ∙ ap (filled_up a.frontier (value_of a.numbers)) e ∙ filled_up_all a.frontier (value_of a.numbers)
+    c.loop-v.invariant.0 ∙ ap (filled_up a.frontier (value_of a.numbers)) e ∙ filled_up_all a.frontier (value_of a.numbers)
 
 pub offset_bounds-row-place : goal.offset_bounds-row-place
-offset_bounds-row-place c = let b = below_length c.args.frontier c.loop-v.v in omega (arith, c.loop-v.invariant.2)
+offset_bounds-row-place c = let b = below_length c.args.frontier c.loop-v.v in omega (arith, c.loop-v.invariant.1)
 
 pub overflow_add-place : goal.overflow_add-place
-overflow_add-place c = let b = below_length c.args.frontier c.loop-v.v in omega (arith, c.loop-v.invariant.2)
+overflow_add-place c = let b = below_length c.args.frontier c.loop-v.v in omega (arith, c.loop-v.invariant.1)
