@@ -17,6 +17,9 @@ use Rattle.test_triggers.proofs.print_triggers.Goals.{After-plan_of_all-plan}
 pub extend-requires : goal.extend-requires
 extend-requires c = (indexed_zeros c.args.facts.now 3120 (omega arith), omega arith, record { few = omega arith; rows = c.requires.room; room = search rules })
 
+pub plan_of_all-plan-requires : goal.plan_of_all-plan-requires
+plan_of_all-plan-requires c = (case_searchable c.requires).body
+
 -- the body by the plan can be searched
 searchable : (p : After-plan_of_all-plan) → Searchable (body_of p.plan_of_all-plan.result) p.args.facts.now p.args.count p.args.terms
 searchable p = subst (λ (b : Body). Searchable b p.args.facts.now p.args.count p.args.terms) (sym (planned_body p.plan_of_all-plan.ensures)) (case_searchable p.requires)
