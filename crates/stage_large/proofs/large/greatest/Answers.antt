@@ -7,7 +7,6 @@ use lib.ListN.{length-set}
 use borrow.Author.Tests.{lt-ltb, le-ltb}
 use Rattle.stage_large.specs.Large.{greatest_size, most_size}
 use Rattle.stage_large.proofs.Bounds.{bounds_with}
-use Rattle.stage_large.proofs.large.greatest.Goals.{then-most-bound, else-most-bound}
 use Rattle.stage_large.proofs.large.greatest.Goals as goal
 
 pub returns-then-n-gt-TERM_LIMIT : goal.returns-then-n-gt-TERM_LIMIT
@@ -34,20 +33,13 @@ overflow_cast-bounds c = omega (arith, c.bound_of-bound.ensures)
 
 pub loop-i-preserved : goal.loop-i-preserved
 loop-i-preserved c =
-    let d = c in
-    let l = d in
-    let s = l in
-    let e = d.bound_of-bound.ensures in
-    let most = c.if-most-bound.most in
-    let b : (most ≡ max l.loop-i.most d.bound_of-bound.result) × (most ≤ 65) =
-    elim c.if-most-bound.branch [
-      | then-most-bound w ↦ (omega (arith, w.if-most-bound.true, w.most-is), omega (arith, w.most-is, e))
-      | else-most-bound w ↦ (omega (arith, w.if-most-bound.false, w.most-is), omega (arith, w.most-is, l.loop-i.invariant.1))
-    ] in (
+    let l = c.loop-i in
+    let e = c.bound_of-bound.ensures in
+    let most = c.max-most in (
       omega arith,
-      b.1,
-      length-set l.loop-i.bounds l.loop-i.i d.bound_of-bound.result ∙ l.loop-i.invariant.2,
-      bounds_with s.requires l.loop-i.bounds l.loop-i.i l.loop-i.most most d.bound_of-bound.result (omega arith) (omega (arith, l.loop-i.invariant.2)) e b.0 l.loop-i.invariant.3,
+      omega (arith, most.ensures, e, l.invariant.1),
+      length-set l.bounds l.i c.bound_of-bound.result ∙ l.invariant.2,
+      bounds_with c.requires l.bounds l.i l.most most.result c.bound_of-bound.result (omega arith) (omega (arith, l.invariant.2)) e most.ensures l.invariant.3,
     )
 
 pub returns : goal.returns

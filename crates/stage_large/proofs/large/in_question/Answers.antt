@@ -7,15 +7,7 @@ use Rattle.stage_large.proofs.large.in_question.Goals as goal
 
 pub returns-then-is_blockable : goal.returns-then-is_blockable
 returns-then-is_blockable c =
-    let k = c in
-    let a = k.args in
+    let a = c.args in
     let r = rule_of a.form.now a.i in
     ap not c.is_idle.ensures
-    ∙ ap (λ (b : Bool). b && not (idle r a.facts.now a.counts.facts a.counts.old)) (sym (sym k.is_blockable.ensures ∙ c.if-is_blockable.true))
-
-pub returns : goal.returns
-returns c =
-    let k = c in
-    let a = k.args in
-    let r = rule_of a.form.now a.i in
-    ap (λ (b : Bool). b && not (idle r a.facts.now a.counts.facts a.counts.old)) (sym (sym k.is_blockable.ensures ∙ c.if-is_blockable.false))
+    ∙ ap (λ (b : Bool). b && not (idle r a.facts.now a.counts.facts a.counts.old)) (sym (sym c.is_blockable.ensures ∙ c.if-is_blockable.true))

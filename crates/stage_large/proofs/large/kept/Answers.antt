@@ -1,9 +1,10 @@
 -- `stage_large::large::kept` meets its contract. The loop's invariant: the places with what was let go, and what is left, are together at most 64.
 -- Assumes nothing.
-use mathlib.Core.Path.{refl, sym, ◌∙◌}
-use Prim.Native.Nat.{◌-◌, ◌<◌}
+use mathlib.Core.Path.{refl, sym, ap, ◌∙◌}
+use Prim.Native.Nat.{ℕ, min, ◌-◌, ◌<◌}
 use native.Mathlib.Omega.{arith}
 use lib.ListN.{get_or}
+use Rattle.tables.specs.Terms.{size_at}
 use Rattle.stage_large.proofs.Kept.{all_kept, one_less}
 use Rattle.stage_large.proofs.large.kept.Goals.{Then-contains}
 use Rattle.stage_large.proofs.large.kept.Goals as goal
@@ -18,28 +19,24 @@ loop-v-init c =
 below : (c : Then-contains) → get_or c.args.assignment (c.loop-v.v - 1) 0 < c.args.count
 below c = c.requires.within (c.loop-v.v - 1)
 
-pub overflow_cast-term : goal.overflow_cast-term
-overflow_cast-term c =
-    let b = below (goal.at.overflow_cast-term c).Then-contains in
-    let f = c.ranges.count in
-    omega arith
-
 pub size_of-requires : goal.size_of-requires
-size_of-requires c = (c.requires.ordered, below (goal.at.size_of-requires c).Then-contains, c.loop-v.invariant.2)
+size_of-requires c = (c.requires.ordered, omega (arith, c.from.ensures, below (goal.at.size_of-requires c).Then-contains), c.loop-v.invariant.2)
 
 pub overflow_sub-cost : goal.overflow_sub-cost
 overflow_sub-cost c =
-    omega (arith, c.size_of.ensures.0, c.requires.bounding.1 (get_or c.args.assignment (c.loop-v.v - 1) 0) (below (goal.at.overflow_sub-cost c).Then-contains))
+    let b = below (goal.at.overflow_sub-cost c).Then-contains in
+    omega (arith, c.size_of.ensures.0, c.requires.bounding.1 c.from.result (omega (arith, c.from.ensures, b)))
 
 pub loop-v-preserved-then-cost-left : goal.loop-v-preserved-then-cost-left
 loop-v-preserved-then-cost-left c =
     let d = c.size_of in
     let l = c.loop-v in
     let a = c.args in
-    let b = c.requires.bounding.1 (get_or a.assignment (l.v - 1) 0) (below (goal.at.loop-v-preserved-then-cost-left c).Then-contains) in (
+    let b = c.requires.bounding.1 (get_or a.assignment (l.v - 1) 0) (below (goal.at.loop-v-preserved-then-cost-left c).Then-contains) in
+    let size = d.ensures.0 ∙ ap (λ (k : ℕ). min (size_at a.terms.now k) 65) c.from.ensures in (
       omega arith,
       one_less a.terms.now a.set a.most a.assignment l.why (l.v - 1) d.result l.left (omega (arith, l.invariant.0, c.loop-v-test.true))
-          (sym c.contains.ensures ∙ c.if-contains.true) d.ensures.0 (omega (arith, d.ensures.0, b)) c.if-cost-left.true l.invariant.1,
+          (sym c.contains.ensures ∙ c.if-contains.true) size (omega (arith, size, b)) c.if-cost-left.true l.invariant.1,
       d.ensures.1,
       d.auto.sizes ∙ l.invariant.3,
     )

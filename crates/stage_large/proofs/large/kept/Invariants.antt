@@ -9,6 +9,3 @@ use Rattle.stage_large.proofs.large.kept.Given as goal
 abbrev pub invariant-loop-v : goal.invariant-loop-v
 invariant-loop-v l =
     (l.v ≤ 8) × (places_at_most l.terms l.set l.why l.most l.assignment + l.left ≤ 64) × Measured l.terms l.sizes × (length l.sizes ≡ length l.initial.sizes)
-
-abbrev pub decreases-loop-v : goal.decreases-loop-v
-decreases-loop-v l = l.v

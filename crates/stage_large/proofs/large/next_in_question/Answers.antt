@@ -42,10 +42,10 @@ loop-i-preserved c =
 
 pub returns : goal.returns
 returns c =
-    let l = c in
+    let rules = c.loop-i.invariant.2 in
     record {
-      onward = l.loop-i.invariant.0;
-      within = omega (arith, l.loop-i.invariant.1, l.loop-i.invariant.2);
-      passed = l.loop-i.invariant.3;
-      found = λ h. absurd (omega (arith, h, l.loop-i.invariant.2));
+      onward = omega (arith, c.requires.1, rules);
+      within = omega (arith, rules);
+      passed = λ k a b. c.loop-i.invariant.3 k a (omega (arith, b, c.loop-i-test.false));
+      found = λ h. absurd (omega (arith, h, rules));
     }

@@ -11,6 +11,3 @@ use Rattle.stage_large.proofs.large.next_in_question.Given as goal
 abbrev pub invariant-loop-i : goal.invariant-loop-i
 invariant-loop-i l =
     (l.from ≤ l.i) × (l.i ≤ l.rules) × (l.rules ≡ length (rules_of l.form)) × ((k : ℕ) → l.from ≤ k → k < l.i → in_question (rule_of l.form k) l.facts l.counts ≡ false)
-
-abbrev pub decreases-loop-i : goal.decreases-loop-i
-decreases-loop-i l = l.rules - l.i

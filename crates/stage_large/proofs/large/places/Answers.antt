@@ -4,6 +4,7 @@ use mathlib.Core.Path.{◌≡◌, refl, sym, ap, ◌∙◌, subst}
 use Prim.Native.Nat.{ℕ, min}
 use native.Mathlib.Omega.{arith}
 use lib.ListN.{length}
+use Rattle.tables.specs.Terms.{size_at}
 use Rattle.stage_large.specs.Large.{Measured}
 use Rattle.stage_large.proofs.Places.{places_before, places_none, places_with, places_without, places_all}
 use Rattle.stage_large.proofs.large.places.Goals.{then-contains, else-contains}
@@ -17,19 +18,8 @@ loop-v-init c =
 pub contains-requires : goal.contains-requires
 contains-requires c = c.loop-v-test.true
 
-pub overflow_cast-term : goal.overflow_cast-term
-overflow_cast-term c =
-    let l = c in
-    let s = l in
-    let b = s.requires.1 l.loop-v.v in
-    let f = s.ranges.count in
-    omega arith
-
 pub size_of-sum-requires : goal.size_of-sum-requires
-size_of-sum-requires c =
-    let l = c in
-    let s = l in
-    (s.requires.0, s.requires.1 l.loop-v.v, l.loop-v.invariant.3)
+size_of-sum-requires c = (c.requires.0, omega (arith, c.from.ensures, c.requires.1 c.loop-v.v), c.loop-v.invariant.3)
 
 pub overflow_add-sum : goal.overflow_add-sum
 overflow_add-sum c =
@@ -45,10 +35,11 @@ loop-v-preserved c =
     elim c.if-contains.branch [
       | then-contains w ↦
           let d = w.size_of-sum in
+          let size = d.ensures.0 ∙ ap (λ (k : ℕ). min (size_at a.terms.now k) 65) w.from.ensures in
           let e = places_with a.terms.now a.set a.assignment l.loop-v.v h (sym c.contains.ensures ∙ w.if-contains.true) in (
             omega (arith, h),
             omega (arith, i.1, d.ensures.0, w.sum-is),
-            omega (arith, i.2, d.ensures.0, e, w.sum-is),
+            omega (arith, i.2, size, e, w.sum-is),
             subst (Measured a.terms.now) (sym w.sizes-is) d.ensures.1,
             ap length w.sizes-is ∙ d.auto.sizes ∙ i.4,
           )

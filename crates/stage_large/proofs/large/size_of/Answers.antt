@@ -1,18 +1,14 @@
 -- `stage_large::large::size_of` meets its contract: what stands in the table was found earlier, and what is found is put down there.
 -- Assumes nothing.
+use mathlib.Core.Path.{◌∙◌}
 use native.Mathlib.Omega.{arith}
 use Rattle.stage_large.proofs.Places.{measured_with}
 use Rattle.stage_large.proofs.large.size_of.Goals as goal
 
-pub overflow_cast-known : goal.overflow_cast-known
-overflow_cast-known c =
-    let s = c in
-    omega (arith, c.type_inv.sizes s.args.i)
-
 pub returns-then-known-gt0 : goal.returns-then-known-gt0
 returns-then-known-gt0 c =
-    let s = c in
-    (s.requires.2 s.args.i c.if-known-gt0.true, s.requires.2)
+    let known = c.from-known.ensures in
+    (known ∙ c.requires.2 c.args.i (omega (arith, known, c.if-known-gt0.true)), c.requires.2)
 
 pub returns : goal.returns
 returns c =

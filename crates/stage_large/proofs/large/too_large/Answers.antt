@@ -65,16 +65,6 @@ body-body-requires c =
     let l = c in
     (l.requires.0.tabled.held, omega arith)
 
-pub body_arities-arities-requires : goal.body_arities-arities-requires
-body_arities-arities-requires c =
-    let l = c in
-    (l.requires.0.tabled.held, omega arith)
-
-pub body_count-atoms-requires : goal.body_count-atoms-requires
-body_count-atoms-requires c =
-    let l = c in
-    (l.requires.0.tabled.held, omega arith)
-
 pub body_set-set-requires : goal.body_set-set-requires
 body_set-set-requires c =
     let l = c in
@@ -90,15 +80,12 @@ any_large-requires c =
     let a = s.args in
     let h : l.loop-i.i < length (rules_of a.form.now) = omega (arith, l.loop-i.invariant.1, c.loop-i-test.true) in
     record {
-      searchable = given_searchable a.form.now a.terms.now a.counts.terms a.facts.now a.counts.facts s.requires.0.tabled l.loop-i.i h c.body-body.result
-          c.body_arities-arities.result c.body_count-atoms.result c.body_set-set.result c.body-body.ensures
-          c.body_arities-arities.ensures c.body_count-atoms.ensures c.body_set-set.ensures;
+      searchable = given_searchable a.form.now a.terms.now a.counts.terms a.facts.now a.counts.facts s.requires.0.tabled l.loop-i.i h c.body-body.result c.body-body.ensures;
       ordered = s.requires.0.tabled.ordered;
       few = s.requires.0.tabled.few;
       indexed = s.requires.0.indexed;
-      apart = given_apart a.form.now a.terms.now a.counts.terms a.facts.now a.counts.facts s.requires.0.tabled l.loop-i.i h c.body-body.result
-          c.body_arities-arities.result c.body_count-atoms.result c.body_set-set.result c.body-body.ensures
-          c.body_arities-arities.ensures c.body_count-atoms.ensures c.body_set-set.ensures s.requires.1.once a.counts.old;
+      apart = given_apart a.form.now a.terms.now a.counts.terms a.facts.now a.counts.facts s.requires.0.tabled l.loop-i.i h c.body-body.result c.body-body.ensures
+          s.requires.1.once a.counts.old;
       bounding = most_bounding a.terms.now a.counts.terms l.greatest-most.ensures;
       measured = l.loop-i.invariant.4;
     }
@@ -117,9 +104,8 @@ returns-then-any_large c =
     (l.loop-i.invariant.2
     ∙ any_found (large_rule t) (rules_of a.form.now) l.loop-i.i (record { body = []; head = [] }) h
     (large_rule_is t (rule_of a.form.now l.loop-i.i) k
-    (sym (given_large a.form.now a.terms.now a.counts.terms a.facts.now a.counts.facts a.counts.old a.counts.depth s.requires.0.tabled s.requires.1 l.loop-i.i h d.body-body.result
-    d.body_arities-arities.result d.body_count-atoms.result d.body_set-set.result d.body-body.ensures
-    d.body_arities-arities.ensures d.body_count-atoms.ensures d.body_set-set.ensures k)
+    (sym (given_large a.form.now a.terms.now a.counts.terms a.facts.now a.counts.facts a.counts.old a.counts.depth s.requires.0.tabled s.requires.1 l.loop-i.i h d.body-body.result d.body_set-set.result d.body-body.ensures
+    d.body_set-set.ensures k)
     ∙ sym c.any_large.ensures.0
     ∙ c.if-any_large.true)))
 
@@ -150,9 +136,8 @@ loop-i-preserved c =
         l.loop-i.invariant.2
             ∙ passed
             (no_large t (rule_of a.form.now l.loop-i.i)
-            (sym (given_large a.form.now a.terms.now a.counts.terms a.facts.now a.counts.facts a.counts.old a.counts.depth s.requires.0.tabled s.requires.1 l.loop-i.i h w.body-body.result
-            w.body_arities-arities.result w.body_count-atoms.result w.body_set-set.result
-            w.body-body.ensures w.body_arities-arities.ensures w.body_count-atoms.ensures w.body_set-set.ensures (l.loop-i.invariant.3 h))
+            (sym (given_large a.form.now a.terms.now a.counts.terms a.facts.now a.counts.facts a.counts.old a.counts.depth s.requires.0.tabled s.requires.1 l.loop-i.i h w.body-body.result w.body_set-set.result
+            w.body-body.ensures w.body_set-set.ensures (l.loop-i.invariant.3 h))
             ∙ sym w.any_large.ensures.0
             ∙ w.if-any_large.false))
             ∙ behind,
