@@ -3,9 +3,8 @@ use mathlib.Core.Path.{◌≡◌, refl, sym, ap, ◌∙◌}
 use mathlib.Core.List.{List, [], ◌∷◌, ◌++◌, append-nil}
 use Prim.Native.Nat.{ℕ, zero, suc, ◌+◌, ◌-◌, ◌≤◌, ◌<◌}
 use native.Mathlib.Omega.{arith}
-use lib.ListN.{length, take, drop, set, length-replicate, length-set}
+use lib.ListN.{length, take, drop, set, length-replicate}
 use lib.Seq.{set_split, drop-drop}
-use borrow.Rule.Slice.PartMut.{same_len_mid}
 use Rattle.model.specs.Lists.{collect, padded}
 use Rattle.parsing.specs.Step.{zeros}
 
@@ -79,7 +78,3 @@ module _ (m : ℕ) (row : List ℕ) (v : ℕ) (z : row ≡ zeros (suc m)) where
       let h : suc m - suc (length xs) ≡ m - length xs = omega arith in
       let n : m - m ≡ 0 = omega arith in
       rw (headed_rest, headed_is, drop_zeros m m, n, append-nil, e, padded_zeros, padded_zeros, h)
-
-pub headed_length : (row : List ℕ) (v : ℕ) (left : List ℕ) → length left ≡ length (take (length (set row 0 v) - 1) (drop 1 (set row 0 v)))
-    → length (take 1 (set row 0 v) ++ (left ++ drop (length (set row 0 v) - 1) (drop 1 (set row 0 v)))) ≡ length row
-headed_length row v left e = same_len_mid 1 (length (set row 0 v) - 1) (set row 0 v) left e ∙ length-set row 0 v

@@ -166,9 +166,6 @@ module _ {A S : Type 0} {p : ℕ → Parsed A} {Kept : List A → S → Type 0} 
     back_size : length (given_back w from rows left) ≡ m
     back_size = same_len_mid from ((from + w) - from) rows left g ∙ now.size
 
-    pub rows_length : length (given_back w from rows left) ≡ length free
-    rows_length = back_size ∙ sym (zeros_length m free z)
-
     pub rows_more : {V : Type 0} (keep : A → V) (x : Read V) (s' : S) → k < n → from + w ≤ m → Filled keep row (p at) (Ok x) left
         → ((a : A) → keep a ≡ x.value → (done : List A) → Kept done s → Kept (done ++ (a ∷ [])) s')
         → Rows p Kept row w m n i free (k + 1) x.next s' (given_back w from rows left)
@@ -191,9 +188,6 @@ module _ {A S : Type 0} {p : ℕ → Parsed A} {Kept : List A → S → Type 0} 
       → Filled keep row (p at) (Err e) left → Filled whole full (many n p i) (Err e) left'
   rows_failed keep whole full e left left' h f =
       failed p Kept row n i free k at from s rows now.progress whole full left' e h (step_bad keep (p at) _ _ f.answer)
-
-  pub rows_same : length rows ≡ length free
-  rows_same = now.size ∙ sym (zeros_length m free z)
 
   pub rows_finished : {V : Type 0} (keep : List A → V) (v : V) → ((done : List A) → Kept done s → keep done ≡ v) → n ≤ k
       → Filled keep (λ as'. padded m (collect row as')) (many n p i) (Ok (record { value = v; next = at })) rows

@@ -6,7 +6,6 @@ use native.Mathlib.Omega.{arith}
 use lib.ListN.{length, take, drop, set, length-append, length-set}
 use lib.Seq.{take_at, drop_at, set_at}
 use borrow.Author.Tests.{eq-eqb, ne_eqb}
-use borrow.Rule.Slice.PartMut.{same_len_mid}
 use Rattle.core.specs.declared.result.Result.{Result}
 use Rattle.core.specs.declared.result.Result.TheVariants.{Ok, Err}
 use Rattle.refusal.specs.declared.Refusal.TheVariants.{End}
@@ -112,10 +111,6 @@ module _ (form : List ℕ) (version : ℕ) (arities : List ℕ) (z : form ≡ ze
           ap (λ (xs : List ℕ). drop 6785 (drop 1 xs)) listed_is ∙ drop_at (zeros 6785) (padded 1024 arities ++ behind) 6785 (length_zeros 6785)
           in
           rw (d, listed_is)
-
-      pub ruled_length : (rules : List ℕ) → length rules ≡ length (take 6785 (drop 1 (listed form version arities copied)))
-          → length (ruled form version arities copied rules) ≡ length form
-      ruled_length rules e = same_len_mid 1 6785 (listed form version arities copied) rules e ∙ listed_length ∙ sym (zeros_length 7812 form z)
 
       -- what is left where all is good
       pub form_encoded : (v : ℕ) (rules : List ℕ) (rs : List Rule) → version ≡ v → rules ≡ rules_row rs

@@ -5,7 +5,6 @@ use Prim.Native.Nat.{ℕ, suc, ◌+◌, ◌-◌, ◌≤◌}
 use native.Mathlib.Omega.{arith}
 use lib.ListN.{length, take, drop, set, length-append, length-set}
 use lib.Seq.{take_at, drop_at}
-use borrow.Rule.Slice.PartMut.{same_len_mid}
 use Rattle.core.specs.declared.option.Option.TheVariants.{Some, None}
 use Rattle.core.specs.declared.result.Result.{Result}
 use Rattle.core.specs.declared.result.Result.TheVariants.{Ok, Err}
@@ -60,9 +59,6 @@ module _ (row : List ℕ) (z : row ≡ zeros 106) where
 
     pub head_zeros : take (length (counted row left n) - 22) (drop 22 (counted row left n)) ≡ zeros 84
     head_zeros = let h : 84 ≤ 84 = omega arith in rw (counted_length, rest_is, take_zeros 84 84 h)
-
-    pub headed_length : (heads : List ℕ) → length heads ≡ length (take (length (counted row left n) - 22) (drop 22 (counted row left n))) → length (headed row left n heads) ≡ 106
-    headed_length heads e = same_len_mid 22 (length (counted row left n) - 22) (counted row left n) heads e ∙ counted_length
 
     headed_is : (heads : List ℕ) → headed row left n heads ≡ n ∷ (left ++ heads)
     unfolding zeros
