@@ -2,15 +2,10 @@
 use mathlib.Core.Path.{◌≡◌, sym}
 use mathlib.Core.List.{List}
 use Prim.Native.Nat.{ℕ}
-use Rattle.model.specs.Form.{Transfer}
 use Rattle.model.specs.Stages.{Verdict}
-use Rattle.embed.specs.Numbers.{of_checked, verdict_number, verdict_values, transferred, transfer_number, transfer_value}
+use Rattle.embed.specs.Numbers.{of_checked, verdict_number, verdict_values}
 
 -- the number of a verdict, and its three values
 pub check_left : (v : Verdict) {terms facts : List ℕ} {n : ℕ} {xs : List ℕ} → (n ≡ verdict_number v) × (xs ≡ verdict_values v)
     → of_checked (record { verdict = v; terms = terms; facts = facts }) ≡ record { number = n; answer = xs; terms = terms; facts = facts }
 check_left v {terms} {facts} h = λ i. record { number = sym h.0 i; answer = sym h.1 i; terms = terms; facts = facts }
-
--- the two numbers of a transfer
-pub transfer_left : (a : Transfer) {xs : List ℕ} {n k : ℕ} → (n ≡ transfer_number a) × (k ≡ transfer_value a) → transferred a xs ≡ record { number = n; value = k; list = xs }
-transfer_left a {xs} h = λ i. record { number = sym h.0 i; value = sym h.1 i; list = xs }

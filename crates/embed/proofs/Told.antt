@@ -11,14 +11,15 @@ use borrow.Author.Tests.{leb-true, leb-false}
 use Rattle.model.specs.Rules.{RuleSet}
 use Rattle.model.specs.Format.{Parsed, good, bad, read}
 use Rattle.model.specs.Stages.{Verdict, accepted, cyclic_at, refused}
-use Rattle.model.specs.Form.{Transfer, done, refusal, form_length, reading, Writing, writing}
+use Rattle.model.specs.Form.{form_length, reading, Writing, writing}
 use Rattle.model.specs.Limits.{terms_front, facts_front}
 use Rattle.model.specs.Tables.{is_depth}
 use Rattle.laws.proofs.Bools.{case}
 use Rattle.laws_format.proofs.RoundTrip.{reading_short, reading_bad, reading_good, Written, faulty, short, whole, writing_written}
 use Rattle.laws_tables.proofs.Refusals.{Faulty, read_faulty}
 use Rattle.report.specs.Printing.{printing, text_room}
-use Rattle.embed.specs.Numbers.{verdict_number, verdict_values, transfer_number, transfer_value}
+use Rattle.crossing.proofs.Told.{Numbered}
+use Rattle.embed.specs.Numbers.{verdict_number, verdict_values}
 
 pub verdict_told : (v w : Verdict) → verdict_number v ≡ verdict_number w → verdict_values v ≡ verdict_values w → v ≡ w
 verdict_told (accepted n f t) (accepted n' f' t') e h = cc
@@ -31,16 +32,7 @@ verdict_told (refused n p) (accepted n' f' t') e h = absurd (omega arith)
 verdict_told (refused n p) (cyclic_at n' f' t') e h = absurd (omega arith)
 verdict_told (refused n p) (refused n' p') e h = cc
 
--- a refusal, if it is one, has a number that is not 0
-abbrev pub Numbered : Transfer → Type 0
-Numbered (done n) = Unit {0}
-Numbered (refusal n p) = 1 ≤ n
-
-pub transfer_told : (a b : Transfer) → Numbered a → Numbered b → transfer_number a ≡ transfer_number b → transfer_value a ≡ transfer_value b → a ≡ b
-transfer_told (done n) (done m) h k e f = cc
-transfer_told (done n) (refusal m q) h k e f = absurd (omega arith)
-transfer_told (refusal n p) (done m) h k e f = absurd (omega arith)
-transfer_told (refusal n p) (refusal m q) h k e f = cc
+-- every refusal has a number that is not 0, so that the numbers of a transfer tell it (`transfer_told` of crossing)
 
 pub reading_numbered : (bytes form : List ℕ) → Numbered (reading bytes form).answer
 reading_numbered bytes form = go (case (leb form_length (length form))) (read bytes) refl (read_faulty bytes)

@@ -2,7 +2,8 @@
 use Rattle.std.specs.Prelude.{List, [], ◌∷◌, ℕ}
 use Rattle.model.specs.Stages.{Verdict, accepted, cyclic_at, refused}
 use Rattle.model.specs.Tables.{Checked}
-use Rattle.model.specs.Form.{Transfer, done, refusal, Reading, Writing}
+use Rattle.model.specs.Form.{Reading, Writing}
+use Rattle.crossing.specs.Numbers.{TransferLeft, transferred}
 use Rattle.report.specs.Printing.{Printing}
 
 -- the number that is returned
@@ -17,16 +18,6 @@ verdict_values (accepted n f t) = n ∷ f ∷ t ∷ []
 verdict_values (cyclic_at n f t) = n ∷ f ∷ t ∷ []
 verdict_values (refused n p) = n ∷ p ∷ 0 ∷ []
 
--- the number that is returned: 0, or the refusal's
-abbrev pub transfer_number : Transfer → ℕ
-transfer_number (done n) = 0
-transfer_number (refusal n p) = n
-
--- the one place of `value`: how many were read or written, or the refusal's place
-abbrev pub transfer_value : Transfer → ℕ
-transfer_value (done n) = n
-transfer_value (refusal n p) = p
-
 pub record CheckLeft : Type 0 where
   pub number : ℕ
   pub answer : List ℕ
@@ -35,14 +26,6 @@ pub record CheckLeft : Type 0 where
 
 abbrev pub of_checked : Checked → CheckLeft
 of_checked x = record { number = verdict_number x.verdict; answer = verdict_values x.verdict; terms = x.terms; facts = x.facts }
-
-pub record TransferLeft : Type 0 where
-  pub number : ℕ
-  pub value : ℕ
-  pub list : List ℕ
-
-abbrev pub transferred : Transfer → List ℕ → TransferLeft
-transferred a xs = record { number = transfer_number a; value = transfer_value a; list = xs }
 
 abbrev pub of_reading : Reading → TransferLeft
 of_reading x = transferred x.answer x.form

@@ -6,30 +6,13 @@ ghost use Rattle.std.specs.Prelude.{◌≡◌, replicate};
 ghost use Rattle.model.specs.Form.{reading, writing};
 ghost use Rattle.model.specs.Limits.{terms_front, facts_front};
 ghost use Rattle.model.specs.Tables.{checked};
-ghost use Rattle.reader.specs.Transfer.{transfer_of};
 ghost use Rattle.report.specs.Printing.{printing};
 ghost use Rattle.judging.specs.Verdict.{meant};
-ghost use Rattle.embed.specs.Numbers.{of_checked, of_reading, of_writing, of_printing, verdict_number, verdict_values, transfer_number, transfer_value};
+ghost use Rattle.embed.specs.Numbers.{of_checked, of_reading, of_writing, of_printing, verdict_number, verdict_values};
 
+use crossing::transfer;
 use judging::verdict::Verdict;
-use reader::Transfer;
 use report::{FACTS_FRONT, TERMS_FRONT};
-
-// The number that is returned for an answer, and the one that is left in `value`.
-fn transfer(answer: Transfer, value: &mut usize) -> usize
-    ensures { (result ≡ transfer_number (transfer_of answer)) × (value.new ≡ transfer_value (transfer_of answer)) }
-{
-    match answer {
-        Transfer::Done(count) => {
-            *value = count;
-            0
-        }
-        Transfer::Refusal(number, place) => {
-            *value = place;
-            number as usize
-        }
-    }
-}
 
 // The number that is returned for a verdict, and the three that are left in `answer`.
 fn judgement(verdict: Verdict, answer: &mut [usize; 3]) -> usize
@@ -44,8 +27,8 @@ fn judgement(verdict: Verdict, answer: &mut [usize; 3]) -> usize
             *answer = [stage, f, t];
             1
         }
-        Verdict::Refused(number, place) => {
-            *answer = [number, place, 0];
+        Verdict::Refused(refused) => {
+            *answer = [usize::from(refused.refusal), refused.place, 0];
             2
         }
     }
@@ -62,8 +45,8 @@ pub extern "C" fn rulfjen_check(
 ) -> usize
     ensures { of_checked (checked depth book.now terms.old facts.old) ≡ record { number = result; answer = answer.new; terms = terms.new; facts = facts.new } }
 {
-    let verdict = dmfa::check(book, depth, &mut *terms, &mut *facts);
-    judgement(verdict, &mut *answer)
+    let verdict = dmfa::check(book, depth, terms, facts);
+    judgement(verdict, answer)
 }
 
 // Reads a rule set into a form.
@@ -71,8 +54,8 @@ pub extern "C" fn rulfjen_check(
 pub extern "C" fn rulfjen_read(book: &[u8], form: &mut [u16], value: &mut usize) -> usize
     ensures { of_reading (reading book.now form.old) ≡ record { number = result; value = value.new; list = form.new } }
 {
-    let answer = reader::read(book, &mut *form);
-    transfer(answer, &mut *value)
+    let answer = reader::read(book, form);
+    transfer(answer, value)
 }
 
 // Writes the bytes of a form's rule set.
@@ -80,8 +63,8 @@ pub extern "C" fn rulfjen_read(book: &[u8], form: &mut [u16], value: &mut usize)
 pub extern "C" fn rulfjen_write(form: &[u16], book: &mut [u8], value: &mut usize) -> usize
     ensures { of_writing (writing form.now book.old) ≡ record { number = result; value = value.new; list = book.new } }
 {
-    let answer = writer::write(form, &mut *book);
-    transfer(answer, &mut *value)
+    let answer = writer::write(form, book);
+    transfer(answer, value)
 }
 
 // Writes the text of the check's answer at a depth. The check's tables are local.
@@ -96,6 +79,6 @@ pub extern "C" fn rulfjen_print(
 {
     let mut terms = [0u16; TERMS_FRONT];
     let mut facts = [0u16; FACTS_FRONT];
-    let answer = report::print(book, depth, &mut terms, &mut facts, &mut *text);
-    transfer(answer, &mut *value)
+    let answer = report::print(book, depth, &mut terms, &mut facts, text);
+    transfer(answer, value)
 }

@@ -1,4 +1,4 @@
--- The numbers that cross tell the answer of a converter: no two answers have the same. Assumes nothing.
+-- The numbers that cross tell the answer of a converter. Assumes nothing.
 use mathlib.Core.Path.{◌≡◌, refl}
 use mathlib.Core.Bool.{true, false}
 use mathlib.Core.Logic.{◌⊎◌, inl, inr}
@@ -11,19 +11,14 @@ use borrow.Author.Tests.{leb-true, leb-false}
 use Rattle.model.specs.Limits.{bytes_limit}
 use Rattle.model.specs.Rules.{RuleSet}
 use Rattle.model.specs.Format.{Parsed, good, bad}
-use Rattle.model.specs.Form.{Transfer, done, refusal}
 use Rattle.laws.proofs.Bools.{case}
 use Rattle.laws_tables.proofs.Refusals.{Faulty}
 use Rattle.converter_model.specs.Converter.{convertible, converting}
 use Rattle.converter_model.proofs.Converting.{converting_short, converting_bad, converting_good}
 use Rattle.converter_model.proofs.Faults.{convertible_faulty}
-use Rattle.embed_books.specs.Numbers.{transfer_number, transfer_value}
+use Rattle.crossing.proofs.Told.{Numbered}
 
--- a refusal, if it is one, has a number that is not 0
-abbrev pub Numbered : Transfer → Type 0
-Numbered (done n) = Unit {0}
-Numbered (refusal n p) = 1 ≤ n
-
+-- a refusal has a number that is not 0, so that the numbers tell (`transfer_told` of crossing)
 pub converting_numbered : (from to : ℕ) (bytes out : List ℕ) → Numbered (converting from to bytes out).answer
 converting_numbered from to bytes out = go (case (leb bytes_limit (length out))) (convertible from bytes) refl (convertible_faulty from bytes)
   where
@@ -32,10 +27,3 @@ converting_numbered from to bytes out = go (case (leb bytes_limit (length out)))
     go (inr l) o e h = rw (converting_short from to bytes out (leb-false bytes_limit (length out) l)) (omega arith)
     go (inl l) (bad n p) e h = rw (converting_bad from to bytes out (leb-true bytes_limit (length out) l) n p e) (omega arith)
     go (inl l) (good b i) e h = rw (converting_good from to bytes out (leb-true bytes_limit (length out) l) b i e) tt
-
--- so the numbers tell
-pub transfer_told : (a b : Transfer) → Numbered a → Numbered b → transfer_number a ≡ transfer_number b → transfer_value a ≡ transfer_value b → a ≡ b
-transfer_told (done n) (done m) h k e f = cc
-transfer_told (done n) (refusal m q) h k e f = absurd (omega arith)
-transfer_told (refusal n p) (done m) h k e f = absurd (omega arith)
-transfer_told (refusal n p) (refusal m q) h k e f = cc

@@ -3,13 +3,14 @@ use mathlib.Core.Path.{◌≡◌, sym}
 use mathlib.Core.List.{List}
 use Prim.Native.Nat.{ℕ}
 use Rattle.model.specs.Form.{Transfer}
+use Rattle.crossing.specs.Numbers.{transfer_number, transfer_value}
 use Rattle.columns_model.specs.Store.{Answer}
-use Rattle.embed_columns.specs.Numbers.{pack_number, pack_value, unpack_number, unpack_values, of_packed, of_unpacked}
+use Rattle.embed_columns.specs.Numbers.{unpack_number, unpack_values, of_packed, of_unpacked}
 
--- both numbers of a transfer
-pub pack_left : (a : Transfer) {xs : List ℕ} {n k : ℕ} → (n ≡ pack_number a) × (k ≡ pack_value a)
+-- both numbers of what `pack` answers
+pub pack_left : (a : Transfer) {xs : List ℕ} {n k : ℕ} → n ≡ transfer_number a → k ≡ transfer_value a
     → of_packed (record { answer = a; bytes = xs }) ≡ record { number = n; value = k; store = xs }
-pack_left a {xs} h = λ i. record { number = sym h.0 i; value = sym h.1 i; store = xs }
+pack_left a {xs} e f = λ i. record { number = sym e i; value = sym f i; store = xs }
 
 -- the number of an answer, and its two values
 pub unpack_left : (a : Answer) {terms facts : List ℕ} {n : ℕ} {xs : List ℕ} → (n ≡ unpack_number a) × (xs ≡ unpack_values a)

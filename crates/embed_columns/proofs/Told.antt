@@ -7,17 +7,13 @@ use Prim.Native.Nat.{ℕ, ◌≤◌}
 use native.Mathlib.Omega.{arith}
 use lib.Dec.{leb}
 use lib.ListN.{length}
-use Rattle.model.specs.Form.{Transfer, done, refusal}
 use Rattle.laws.proofs.Bools.{case}
 use Rattle.columns_model.specs.Store.{store_room, fronts, within, sound, Answer, counts, refused, packed, unpacked}
 use Rattle.columns_model.proofs.Answers.{packed_short, packed_over, packed_good, unpacked_short, unpacked_faulty, unpacked_good}
-use Rattle.embed_columns.specs.Numbers.{pack_number, pack_value, unpack_number, unpack_values}
+use Rattle.crossing.proofs.Told.{Numbered}
+use Rattle.embed_columns.specs.Numbers.{unpack_number, unpack_values}
 
 -- a refusal, if it is one, has a number that is not 0
-
-abbrev pub Numbered : Transfer → Type 0
-Numbered (done n) = Unit {0}
-Numbered (refusal n p) = 1 ≤ n
 
 abbrev pub NumberedAnswer : Answer → Type 0
 NumberedAnswer (counts t f) = Unit {0}
@@ -40,13 +36,7 @@ unpacked_numbered bs terms facts = go (case (fronts terms facts)) (case (sound b
     go (inl l) (inr s) = rw (unpacked_faulty bs terms facts l s) (omega arith)
     go (inl l) (inl s) = rw (unpacked_good bs terms facts l s) tt
 
--- so the numbers tell
-
-pub pack_told : (a b : Transfer) → Numbered a → Numbered b → pack_number a ≡ pack_number b → pack_value a ≡ pack_value b → a ≡ b
-pack_told (done n) (done m) h k e f = cc
-pack_told (done n) (refusal m q) h k e f = absurd (omega arith)
-pack_told (refusal n p) (done m) h k e f = absurd (omega arith)
-pack_told (refusal n p) (refusal m q) h k e f = cc
+-- so the numbers tell: those of `pack` by `transfer_told` of crossing
 
 pub unpack_told : (a b : Answer) → NumberedAnswer a → NumberedAnswer b → unpack_number a ≡ unpack_number b → unpack_values a ≡ unpack_values b → a ≡ b
 unpack_told (counts t f) (counts t' f') h k e v = cc

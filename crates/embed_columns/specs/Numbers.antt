@@ -1,19 +1,11 @@
 -- By which numbers the answers of `pack` and `unpack` cross to C, and all that a call leaves behind (bindings/c/rulfjen_columns.h).
 -- Assumes nothing.
 use Rattle.std.specs.Prelude.{List, [], ◌∷◌, ℕ}
-use Rattle.model.specs.Form.{Transfer, done, refusal, Writing}
+use Rattle.model.specs.Form.{Writing}
+use Rattle.crossing.specs.Numbers.{transfer_number, transfer_value}
 use Rattle.columns_model.specs.Store.{Answer, counts, refused, Unpacking}
 
 -- the number that is returned: 0, or the refusal's
-abbrev pub pack_number : Transfer → ℕ
-pack_number (done n) = 0
-pack_number (refusal n p) = n
-
--- the one place of `value`: how many bytes were written, or the refusal's place
-abbrev pub pack_value : Transfer → ℕ
-pack_value (done n) = n
-pack_value (refusal n p) = p
-
 abbrev pub unpack_number : Answer → ℕ
 unpack_number (counts t f) = 0
 unpack_number (refused n p) = n
@@ -29,7 +21,7 @@ pub record PackLeft : Type 0 where
   pub store : List ℕ
 
 abbrev pub of_packed : Writing → PackLeft
-of_packed x = record { number = pack_number x.answer; value = pack_value x.answer; store = x.bytes }
+of_packed x = record { number = transfer_number x.answer; value = transfer_value x.answer; store = x.bytes }
 
 pub record UnpackLeft : Type 0 where
   pub number : ℕ

@@ -3,42 +3,26 @@
 #![tactic(auto)]
 
 ghost use Rattle.std.specs.Prelude.{◌≡◌};
-ghost use Rattle.reader.specs.Transfer.{transfer_of};
 ghost use Rattle.columns.specs.Contract.{answer_of};
 ghost use Rattle.columns_model.specs.Store.{packed, unpacked};
-ghost use Rattle.embed_columns.specs.Numbers.{pack_number, pack_value, unpack_number, unpack_values, of_packed, of_unpacked};
+ghost use Rattle.embed_columns.specs.Numbers.{unpack_number, unpack_values, of_packed, of_unpacked};
 
-use columns::{Unpacked, pack, unpack};
-use reader::Transfer;
-
-// The number that is returned for what `pack` answers, and the one that is left in `value`.
-fn transfer(answer: Transfer, value: &mut usize) -> usize
-    ensures { (result ≡ pack_number (transfer_of answer)) × (value.new ≡ pack_value (transfer_of answer)) }
-{
-    match answer {
-        Transfer::Done(count) => {
-            *value = count;
-            0
-        }
-        Transfer::Refusal(number, place) => {
-            *value = place;
-            number as usize
-        }
-    }
-}
+use columns::{Stored, pack, unpack};
+use crossing::transfer;
+use refusal::Refused;
 
 // The number that is returned for what `unpack` answers, and the two that are left in `counts`.
-fn counted(answer: Unpacked, counts: &mut [usize; 2]) -> usize
+fn counted(answer: Result<Stored, Refused>, counts: &mut [usize; 2]) -> usize
     ensures { (result ≡ unpack_number (answer_of answer)) × (counts.new ≡ unpack_values (answer_of answer)) }
 {
     match answer {
-        Unpacked::Counts(t, f) => {
-            *counts = [t, f];
+        Ok(stored) => {
+            *counts = [stored.terms, stored.facts];
             0
         }
-        Unpacked::Refusal(number, place) => {
-            *counts = [place, 0];
-            number as usize
+        Err(refused) => {
+            *counts = [refused.place, 0];
+            usize::from(refused.refusal)
         }
     }
 }
@@ -55,8 +39,8 @@ pub extern "C" fn rulfjen_pack(
 ) -> usize
     ensures { of_packed (packed t f terms.now facts.now store.old) ≡ record { number = result; value = value.new; store = store.new } }
 {
-    let answer = pack(t, f, terms, facts, &mut *store);
-    transfer(answer, &mut *value)
+    let answer = pack(t, f, terms, facts, store);
+    transfer(answer, value)
 }
 
 // Fills the tables with the records of a store.
@@ -69,6 +53,6 @@ pub extern "C" fn rulfjen_unpack(
 ) -> usize
     ensures { of_unpacked (unpacked store.now terms.old facts.old) ≡ record { number = result; counts = counts.new; terms = terms.new; facts = facts.new } }
 {
-    let answer = unpack(store, &mut *terms, &mut *facts);
-    counted(answer, &mut *counts)
+    let answer = unpack(store, terms, facts);
+    counted(answer, counts)
 }

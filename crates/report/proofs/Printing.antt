@@ -13,8 +13,9 @@ use Rattle.model.specs.Tables.{Checked, checked}
 use Rattle.model.specs.Text.{text, text_of, printed}
 use Rattle.laws_tables.specs.Lent.{Depth}
 use Rattle.laws_tables.proofs.Courses.{is_depth_lem, not_depth}
+use Rattle.std.specs.Prelude.{Result}
+use Rattle.refusal.specs.declared.Refused.{Refused}
 use Rattle.reader.specs.Transfer.{transfer_of}
-use Rattle.reader.specs.declared.Transfer.{Transfer}
 use Rattle.judging.specs.declared.verdict.Verdict.{Verdict}
 use Rattle.judging.specs.Verdict.{meant}
 use Rattle.tables.specs.Rows.{written}
@@ -102,7 +103,7 @@ module _ (input out : List ℕ) (l : text_room ≤ length out) where
   printing_printed = long program_depth first_bytes zero_terms zero_facts out terms_long facts_long l (omega arith, omega arith)
 
   -- whatever `print` answers then, it is how many bytes `printed` has, and these stand first
-  pub program_prints : (r : Transfer) {terms facts left : List ℕ} → Prints program_depth first_bytes zero_terms zero_facts out r terms facts left
+  pub program_prints : (r : Result ℕ Refused) {terms facts left : List ℕ} → Prints program_depth first_bytes zero_terms zero_facts out r terms facts left
       → (transfer_of r ≡ done (length (printed input))) × (take (length (printed input)) left ≡ printed input)
   unfolding printed
   program_prints r {terms} {facts} {left} p =

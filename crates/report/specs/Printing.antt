@@ -1,11 +1,11 @@
 -- Everything that `print` answers and leaves behind, and its contract. Assumes nothing.
-use Rattle.std.specs.Prelude.{◌≡◌, true, false, ◌&&◌, List, ◌++◌, ℕ, leb, length, drop}
+use Rattle.std.specs.Prelude.{◌≡◌, true, false, ◌&&◌, List, ◌++◌, ℕ, leb, length, drop, Result}
 use Rattle.model.specs.Form.{Transfer, done, refusal}
 use Rattle.model.specs.Limits.{terms_front, facts_front}
 use Rattle.model.specs.Tables.{Checked, is_depth, checked}
 use Rattle.model.specs.Text.{text_of}
+use Rattle.refusal.specs.declared.Refused.{Refused}
 use Rattle.reader.specs.Transfer.{transfer_of}
-use Rattle.reader.specs.declared.Transfer as answers
 use Rattle.judging.specs.declared.verdict.Verdict.{Verdict}
 use Rattle.dmfa.specs.Promises.{Checks}
 
@@ -35,7 +35,7 @@ printing depth bytes terms facts out =
     ]
 
 -- the contract: what `print` answers and leaves, given bytes, a depth, two tables and a list for the text
-abbrev pub Prints : ℕ → List ℕ → List ℕ → List ℕ → List ℕ → answers.Transfer → List ℕ → List ℕ → List ℕ → Type 0
+abbrev pub Prints : ℕ → List ℕ → List ℕ → List ℕ → List ℕ → Result ℕ Refused → List ℕ → List ℕ → List ℕ → Type 0
 Prints depth bytes terms₀ facts₀ out₀ r terms facts out =
     printing depth bytes terms₀ facts₀ out₀ ≡ record { answer = transfer_of r; terms = terms; facts = facts; out = out }
 

@@ -10,6 +10,7 @@ ghost use Rattle.report.specs.Printing.{Answer, text_room, Prints};
 use form::layout::{ARITIES, LENGTH, VERSION};
 use judging::verdict::Verdict;
 use reader::Transfer;
+use refusal::{Refusal, Refused};
 
 // The front parts of the caller's tables, and room for every text (model's `Limits`, specs/Printing).
 pub const TERMS_FRONT: usize = 5130;
@@ -30,8 +31,8 @@ fn write_answer(
     ensures { Writes (text_of bytes.now (record { verdict = meant verdict; terms = terms.now; facts = facts.now })) 0 out.old out.new result }
 {
     let mut form = [0u16; LENGTH];
-    reader::read(bytes, &mut form);
-    text::write_text(verdict, &form[ARITIES..VERSION], terms, facts, &mut *out)
+    let _ = reader::read(bytes, &mut form);
+    text::write_text(verdict, &form[ARITIES..VERSION], terms, facts, out)
 }
 
 // Runs the check at a depth, and leaves the text of its answer in the front of `out`: answers how many bytes, or refusal 1 for a list too short,
@@ -45,19 +46,18 @@ pub fn print(
 ) -> Transfer
     ensures { Prints depth bytes.now terms.old facts.old out.old result terms.new facts.new out.new }
 {
-    if terms.len() < TERMS_FRONT {
-        return Transfer::Refusal(1, 0);
-    }
-    if facts.len() < FACTS_FRONT {
-        return Transfer::Refusal(1, 0);
-    }
-    if out.len() < TEXT_ROOM {
-        return Transfer::Refusal(1, 0);
+    if terms.len() < TERMS_FRONT || facts.len() < FACTS_FRONT || out.len() < TEXT_ROOM {
+        return Err(Refused {
+            refusal: Refusal::ShortList,
+            place: 0,
+        });
     }
     if !dmfa::is_depth(depth) {
-        return Transfer::Refusal(18, 0);
+        return Err(Refused {
+            refusal: Refusal::Depth,
+            place: 0,
+        });
     }
-    let verdict = dmfa::check(bytes, depth, &mut *terms, &mut *facts);
-    let length = write_answer(bytes, verdict, &*terms, &*facts, &mut *out);
-    Transfer::Done(length)
+    let verdict = dmfa::check(bytes, depth, terms, facts);
+    Ok(write_answer(bytes, verdict, terms, facts, out))
 }

@@ -6,7 +6,6 @@ ghost use Rattle.model.specs.Limits.{input_limit};
 ghost use Rattle.model.specs.Text.{printed};
 ghost use Rattle.report.specs.Printing.{text_room};
 
-use reader::Transfer;
 use report::{FACTS_FRONT, TERMS_FRONT, TEXT_ROOM};
 use std::io;
 use std::io::{Print, Read};
@@ -24,12 +23,8 @@ fn text(input: &[u8], out: &mut [u8]) -> usize
 {
     let mut terms = [0u16; TERMS_FRONT];
     let mut facts = [0u16; FACTS_FRONT];
-    let answer = report::print(input, DEPTH, &mut terms, &mut facts, &mut *out);
-    match answer {
-        Transfer::Done(count) => count,
-        // never: no list is short, and 1 is a depth
-        Transfer::Refusal(_, _) => 0,
-    }
+    // never refused: no list is short, and 1 is a depth
+    report::print(input, DEPTH, &mut terms, &mut facts, out).unwrap_or(0)
 }
 
 // Reads the front of standard input, as far as the list has room, and answers how many bytes.

@@ -2,10 +2,10 @@
 use mathlib.Core.Path.{ap, ◌∙◌}
 use Rattle.reader.specs.Transfer.{transfer_of}
 use Rattle.embed_books.specs.Numbers.{of_writing}
-use Rattle.embed_books.proofs.Numbers.{transfer_left}
+use Rattle.crossing.proofs.Told.{transfer_left}
 use Rattle.embed_books.proofs.rulfjen_upgrade.Goals as goal
 
 pub returns : goal.returns
 returns c =
     let x = c.upgrade-answer in
-    ap of_writing x.ensures ∙ transfer_left (transfer_of x.result) c.transfer.ensures
+    ap of_writing x.ensures ∙ transfer_left (transfer_of x.result) c.transfer.ensures.number c.transfer.ensures.value

@@ -8,4 +8,4 @@ use Rattle.embed_columns.proofs.rulfjen_pack.Goals as goal
 pub returns : goal.returns
 returns c =
     let x = c.pack-answer in
-    ap of_packed x.ensures ∙ pack_left (transfer_of x.result) c.transfer.ensures
+    ap of_packed x.ensures ∙ pack_left (transfer_of x.result) c.transfer.ensures.number c.transfer.ensures.value
