@@ -1,7 +1,6 @@
 -- `stage_large::large::any_large` meets its contract. The loop's invariant: what is left of the triggers decides, what agrees with one that was
 -- given at the variables of its reason is not large, and the sizes were found. Each turn less is ahead. Assumes nothing.
 use mathlib.Core.Path.{◌≡◌, refl, sym, ap, ◌∙◌, subst}
-use mathlib.Core.Bool.{Bool}
 use mathlib.Core.List.{List}
 use Prim.Native.Nat.{ℕ}
 use native.Mathlib.Omega.{arith}
@@ -11,7 +10,6 @@ use Rattle.model.specs.Lists.{any}
 use Rattle.laws_triggers.specs.Match.{Body, Searchable}
 use Rattle.triggers.specs.declared.Plan.{Plan}
 use Rattle.triggers.specs.Search.{as_body, body_of}
-use Rattle.form.specs.declared.atoms.Atoms.{Atoms}
 use Rattle.cursor.specs.Going.{Told}
 use Rattle.new_triggers.specs.declared.Extent.{Extent}
 use Rattle.new_triggers.specs.declared.Ahead.{Ahead}

@@ -11,13 +11,11 @@ use Rattle.stage_large.proofs.large.can_be_large.Goals as goal
 
 pub overflow_mul-result : goal.overflow_mul-result
 overflow_mul-result c =
-    let s = c in
     let e = elements_length c.body_set-set.result in
     let f : c.set_size.result ≤ 8 = omega (arith, c.set_size.ensures, e) in
-    let m = mul-le-mul_left s.args.most f in
+    let m = mul-le-mul_left c.args.most f in
     omega (arith, m)
 
 pub returns : goal.returns
 returns c =
-    let s = c in
-    ap (λ (x : ℕ). ltb 64 (s.args.most * x)) (c.set_size.ensures ∙ ap (λ (x : ℕ). length (elements x)) c.body_set-set.ensures)
+    ap (λ (x : ℕ). ltb 64 (c.args.most * x)) (c.set_size.ensures ∙ ap (λ (x : ℕ). length (elements x)) c.body_set-set.ensures)

@@ -1,7 +1,6 @@
 -- `stage_large::large::greatest` meets its contract. The loop's invariant: the terms so far are measured, and the greatest size is known.
 -- Assumes nothing.
 use mathlib.Core.Path.{◌≡◌, refl, sym, ap, ◌∙◌}
-use Prim.Native.Nat.{max, ◌≤◌}
 use native.Mathlib.Omega.{arith}
 use lib.ListN.{length-set}
 use borrow.Author.Tests.{lt-ltb, le-ltb}
@@ -22,11 +21,9 @@ slice_bounds-bound_of-end c = sym c.loop-i.invariant.2
 
 pub bound_of-bound-requires : goal.bound_of-bound-requires
 bound_of-bound-requires c =
-    let l = c in
-    let s = l in
-    let o = s.requires in
-    let i = l.loop-i.i in
-    (omega (arith, o.room), o.arity i (omega arith), (λ j h. let b = o.before i j (omega arith) h in omega (arith, l.loop-i.invariant.2)))
+    let o = c.requires in
+    let i = c.loop-i.i in
+    (omega (arith, o.room), o.arity i (omega arith), (λ j h. let b = o.before i j (omega arith) h in omega (arith, c.loop-i.invariant.2)))
 
 pub overflow_cast-bounds : goal.overflow_cast-bounds
 overflow_cast-bounds c = omega (arith, c.bound_of-bound.ensures)
@@ -45,8 +42,7 @@ loop-i-preserved c =
 pub returns : goal.returns
 unfolding most_size
 returns c =
-    let l = c in
-    let n = l.args.n in
-    let e = le-ltb 512 n l.if-n-gt-TERM_LIMIT.false in
-    let i : l.loop-i.i ≡ n = omega (arith, l.loop-i.invariant.0) in
-    l.loop-i.invariant.3.1 ∙ ap (greatest_size l.args.terms.now) i ∙ sym (rw (e, most_size) refl)
+    let n = c.args.n in
+    let e = le-ltb 512 n c.if-n-gt-TERM_LIMIT.false in
+    let i : c.loop-i.i ≡ n = omega (arith, c.loop-i.invariant.0) in
+    c.loop-i.invariant.3.1 ∙ ap (greatest_size c.args.terms.now) i ∙ sym (rw (e, most_size) refl)

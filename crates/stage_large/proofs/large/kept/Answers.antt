@@ -11,9 +11,8 @@ use Rattle.stage_large.proofs.large.kept.Goals as goal
 
 pub loop-v-init : goal.loop-v-init
 loop-v-init c =
-    let s = c in
-    let a = s.args in
-    (omega arith, omega (arith, all_kept a.terms.now a.set a.most a.assignment, s.requires.left), s.requires.measured, refl)
+    let a = c.args in
+    (omega arith, omega (arith, all_kept a.terms.now a.set a.most a.assignment, c.requires.left), c.requires.measured, refl)
 
 -- the trigger's term at the variable is one of the stage
 below : (c : Then-contains) → get_or c.args.assignment (c.loop-v.v - 1) 0 < c.args.count

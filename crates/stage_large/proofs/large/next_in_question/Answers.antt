@@ -17,27 +17,24 @@ loop-i-init c = (omega arith, omega (arith, c.requires.1, c.rule_count-rules.ens
 
 pub in_question-requires : goal.in_question-requires
 in_question-requires c =
-    let s = c in
-    (s.requires.0, omega (arith, c.loop-i.invariant.2), s.requires.2, s.requires.3)
+    (c.requires.0, omega (arith, c.loop-i.invariant.2), c.requires.2, c.requires.3)
 
 pub returns-then-in_question : goal.returns-then-in_question
 returns-then-in_question c =
-    let l = c in
     record {
-      onward = l.loop-i.invariant.0;
-      within = omega (arith, l.loop-i.invariant.1, l.loop-i.invariant.2);
-      passed = l.loop-i.invariant.3;
+      onward = c.loop-i.invariant.0;
+      within = omega (arith, c.loop-i.invariant.1, c.loop-i.invariant.2);
+      passed = c.loop-i.invariant.3;
       found = λ h. sym c.in_question.ensures ∙ c.if-in_question.true;
     }
 
 pub loop-i-preserved : goal.loop-i-preserved
 loop-i-preserved c =
-    let l = c in
-    let a = l.args in (
-      omega (arith, l.loop-i.invariant.0),
+    let a = c.args in (
+      omega (arith, c.loop-i.invariant.0),
       omega arith,
-      l.loop-i.invariant.2,
-      one_more (λ (k : ℕ). in_question (rule_of a.form.now k) a.facts.now a.counts ≡ false) a.from l.loop-i.i l.loop-i.invariant.3 (sym c.in_question.ensures ∙ c.if-in_question.false),
+      c.loop-i.invariant.2,
+      one_more (λ (k : ℕ). in_question (rule_of a.form.now k) a.facts.now a.counts ≡ false) a.from c.loop-i.i c.loop-i.invariant.3 (sym c.in_question.ensures ∙ c.if-in_question.false),
     )
 
 pub returns : goal.returns

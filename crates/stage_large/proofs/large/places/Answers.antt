@@ -12,8 +12,7 @@ use Rattle.stage_large.proofs.large.places.Goals as goal
 
 pub loop-v-init : goal.loop-v-init
 loop-v-init c =
-    let s = c in
-    (omega arith, omega arith, omega (arith, places_none s.args.terms.now s.args.set s.args.assignment), s.requires.2, refl)
+    (omega arith, omega arith, omega (arith, places_none c.args.terms.now c.args.set c.args.assignment), c.requires.2, refl)
 
 pub contains-requires : goal.contains-requires
 contains-requires c = c.loop-v-test.true
@@ -23,20 +22,18 @@ size_of-sum-requires c = (c.requires.0, omega (arith, c.from.ensures, c.requires
 
 pub overflow_add-sum : goal.overflow_add-sum
 overflow_add-sum c =
-    let l = c in
-    omega (arith, l.loop-v.invariant.0, l.loop-v.invariant.1, c.size_of-sum.ensures.0)
+    omega (arith, c.loop-v.invariant.0, c.loop-v.invariant.1, c.size_of-sum.ensures.0)
 
 pub loop-v-preserved : goal.loop-v-preserved
 loop-v-preserved c =
-    let l = c in
-    let a = l.args in
-    let i = l.loop-v.invariant in
+    let a = c.args in
+    let i = c.loop-v.invariant in
     let h = c.loop-v-test.true in
     elim c.if-contains.branch [
       | then-contains w ↦
           let d = w.size_of-sum in
           let size = d.ensures.0 ∙ ap (λ (k : ℕ). min (size_at a.terms.now k) 65) w.from.ensures in
-          let e = places_with a.terms.now a.set a.assignment l.loop-v.v h (sym c.contains.ensures ∙ w.if-contains.true) in (
+          let e = places_with a.terms.now a.set a.assignment c.loop-v.v h (sym c.contains.ensures ∙ w.if-contains.true) in (
             omega (arith, h),
             omega (arith, i.1, d.ensures.0, w.sum-is),
             omega (arith, i.2, size, e, w.sum-is),
@@ -44,7 +41,7 @@ loop-v-preserved c =
             ap length w.sizes-is ∙ d.auto.sizes ∙ i.4,
           )
       | else-contains w ↦
-          let e = places_without a.terms.now a.set a.assignment l.loop-v.v h (sym c.contains.ensures ∙ w.if-contains.false) in (
+          let e = places_without a.terms.now a.set a.assignment c.loop-v.v h (sym c.contains.ensures ∙ w.if-contains.false) in (
             omega (arith, h),
             omega (arith, i.1, w.sum-is),
             omega (arith, i.2, e, w.sum-is),
@@ -58,9 +55,8 @@ shape_of-sizes c = c.loop-v.invariant.4
 
 pub returns : goal.returns
 returns c =
-    let l = c in
-    let a = l.args in
-    let e : l.loop-v.v ≡ 8 = omega (arith, l.loop-v.invariant.0, c.loop-v-test.false) in (
-      l.loop-v.invariant.2 ∙ ap (λ (v : ℕ). min (places_before a.terms.now a.set a.assignment v) 65) e ∙ ap (λ (k : ℕ). min k 65) (places_all a.terms.now a.set a.assignment),
-      l.loop-v.invariant.3,
+    let a = c.args in
+    let e : c.loop-v.v ≡ 8 = omega (arith, c.loop-v.invariant.0, c.loop-v-test.false) in (
+      c.loop-v.invariant.2 ∙ ap (λ (v : ℕ). min (places_before a.terms.now a.set a.assignment v) 65) e ∙ ap (λ (k : ℕ). min k 65) (places_all a.terms.now a.set a.assignment),
+      c.loop-v.invariant.3,
     )

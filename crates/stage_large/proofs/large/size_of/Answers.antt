@@ -12,6 +12,5 @@ returns-then-known-gt0 c =
 
 pub returns : goal.returns
 returns c =
-    let s = c in
-    let a = s.args in
-    (c.size-size.ensures, measured_with a.terms.now a.sizes.now a.i c.size-size.result (omega arith) c.size-size.ensures s.requires.2)
+    let a = c.args in
+    (c.size-size.ensures, measured_with a.terms.now a.sizes.now a.i c.size-size.result (omega arith) c.size-size.ensures c.requires.2)

@@ -13,18 +13,16 @@ loop-j-init c = (c.from-arity.ensures, omega arith, λ k h. absurd (omega arith)
 pub loop-j-preserved : goal.loop-j-preserved
 loop-j-preserved c =
     let f = c.farther-reached in
-    let l = c in
-    let a = l.args in
-    let h : l.loop-j.j < get_or a.row 1 0 = omega arith in (
-      l.loop-j.invariant.0,
+    let a = c.args in
+    let h : c.loop-j.j < get_or a.row 1 0 = omega arith in (
+      c.loop-j.invariant.0,
       omega arith,
-      below_more (λ (k : ℕ). get_or a.row (k + 2) 0 < f.result) l.loop-j.j (λ k m. omega (arith, l.loop-j.invariant.2 k m, f.ensures.0)) f.ensures.1,
-      λ n m. f.ensures.2 n (l.loop-j.invariant.3 n m) (m.within l.loop-j.j h),
+      below_more (λ (k : ℕ). get_or a.row (k + 2) 0 < f.result) c.loop-j.j (λ k m. omega (arith, c.loop-j.invariant.2 k m, f.ensures.0)) f.ensures.1,
+      λ n m. f.ensures.2 n (c.loop-j.invariant.3 n m) (m.within c.loop-j.j h),
     )
 
 pub returns : goal.returns
 returns c =
-    let l = c in
-    let a = l.args in
-    let e : l.loop-j.j ≡ get_or a.row 1 0 = omega arith in
-    (record { few = l.requires; within = λ j h. l.loop-j.invariant.2 j (omega arith) }, l.loop-j.invariant.3)
+    let a = c.args in
+    let e : c.loop-j.j ≡ get_or a.row 1 0 = omega arith in
+    (record { few = c.requires; within = λ j h. c.loop-j.invariant.2 j (omega arith) }, c.loop-j.invariant.3)

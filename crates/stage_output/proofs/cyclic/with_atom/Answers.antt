@@ -14,13 +14,12 @@ use Rattle.stage_output.proofs.cyclic.with_atom.Goals as goal
 
 pub loop-p-init : goal.loop-p-init
 loop-p-init c =
-    let s = c in
-    let a = s.args in
+    let a = c.args in
     let g = ground_in a.ground a.terms.now in (
       omega arith,
       record {
         first = sym (ap (first_cyclic g (option_to_list a.before.cyclic)) (rows_with_none a.functions a.template a.atom) ∙ first_none g (option_to_list a.before.cyclic));
-        unchanging = s.requires.1.unchanging;
+        unchanging = c.requires.1.unchanging;
       },
     )
 
@@ -38,29 +37,27 @@ with_variable-so_far-requires c =
 pub loop-p-preserved : goal.loop-p-preserved
 loop-p-preserved c =
     let w = c.with_variable-so_far.ensures in
-    let l = c in
-    let a = l.args in
+    let a = c.args in
     let g = ground_in a.ground a.terms.now in
     let row = λ (v : ℕ). row_with (get_or a.functions v 0) a.template in
-    let seen = rows_with a.functions a.template (numbers_from a.atom 1 l.loop-p.p) in (
+    let seen = rows_with a.functions a.template (numbers_from a.atom 1 c.loop-p.p) in (
       omega arith,
       record {
         first = w.first
-            ∙ ap (λ (ls : List (List ℕ)). first_cyclic g ls (row c.from.result)) l.loop-p.invariant.1.first
+            ∙ ap (λ (ls : List (List ℕ)). first_cyclic g ls (row c.from.result)) c.loop-p.invariant.1.first
             ∙ ap (λ (v : ℕ). first_cyclic g (first_cyclic g (option_to_list a.before.cyclic) seen) (row v)) c.from.ensures
-            ∙ sym (first_append g (option_to_list a.before.cyclic) seen (row (get_or a.atom (l.loop-p.p + 1) 0)))
-            ∙ ap (first_cyclic g (option_to_list a.before.cyclic)) (sym (rows_with_more a.functions a.template a.atom l.loop-p.p));
+            ∙ sym (first_append g (option_to_list a.before.cyclic) seen (row (get_or a.atom (c.loop-p.p + 1) 0)))
+            ∙ ap (first_cyclic g (option_to_list a.before.cyclic)) (sym (rows_with_more a.functions a.template a.atom c.loop-p.p));
         unchanging = w.unchanging;
       },
     )
 
 pub returns : goal.returns
 returns c =
-    let l = c in
-    let a = l.args in
-    let e : l.loop-p.p ≡ a.arity = omega arith in
+    let a = c.args in
+    let e : c.loop-p.p ≡ a.arity = omega arith in
     record {
-      first = l.loop-p.invariant.1.first
+      first = c.loop-p.invariant.1.first
           ∙ ap (λ (k : ℕ). first_cyclic (ground_in a.ground a.terms.now) (option_to_list a.before.cyclic) (rows_with a.functions a.template (numbers_from a.atom 1 k))) e;
-      unchanging = l.loop-p.invariant.1.unchanging;
+      unchanging = c.loop-p.invariant.1.unchanging;
     }

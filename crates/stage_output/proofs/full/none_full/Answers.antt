@@ -19,31 +19,24 @@ loop-d-init c = λ x l. absurd (omega arith)
 
 pub none_full_at-requires : goal.none_full_at-requires
 none_full_at-requires c =
-    let l = c in
-    let s = l in
-    (s.requires.0, omega (arith, l.disjunct_count-count.ensures, c.loop-d-test.true), s.requires.1)
+    (c.requires.0, omega (arith, c.disjunct_count-count.ensures, c.loop-d-test.true), c.requires.1)
 
 pub returns-then-not-none_full_at : goal.returns-then-not-none_full_at
 returns-then-not-none_full_at c =
-    let l = c in
-    let s = l in
-    let a = s.args in
+    let a = c.args in
     let f = c.none_full_at in
-    let w : l.loop-d.d < length (rule_of a.form.now a.i).head = omega (arith, l.disjunct_count-count.ensures, c.loop-d-test.true) in
-    sym (rule_some a.form.now a.i s.requires.0.there (ground_in a.left a.terms.now) l.loop-d.d w (sym f.ensures ∙ c.if-not-none_full_at.true))
+    let w : c.loop-d.d < length (rule_of a.form.now a.i).head = omega (arith, c.disjunct_count-count.ensures, c.loop-d-test.true) in
+    sym (rule_some a.form.now a.i c.requires.0.there (ground_in a.left a.terms.now) c.loop-d.d w (sym f.ensures ∙ c.if-not-none_full_at.true))
 
 pub loop-d-preserved : goal.loop-d-preserved
 loop-d-preserved c =
-    let l = c in
-    let a = l.args in
+    let a = c.args in
     let f = c.none_full_at in
     let g = ground_in a.left a.terms.now in
-    below_more (λ (x : ℕ). all (none_full_of g) (functions_of (numbered_of a.form.now a.i x)) ≡ true) l.loop-d.d l.loop-d.invariant (sym f.ensures ∙ c.if-not-none_full_at.false)
+    below_more (λ (x : ℕ). all (none_full_of g) (functions_of (numbered_of a.form.now a.i x)) ≡ true) c.loop-d.d c.loop-d.invariant (sym f.ensures ∙ c.if-not-none_full_at.false)
 
 pub returns : goal.returns
 returns c =
-    let l = c in
-    let s = l in
-    let a = s.args in
-    sym (rule_none a.form.now a.i s.requires.0.there (ground_in a.left a.terms.now)
-    (λ x h. l.loop-d.invariant x (omega (arith, l.disjunct_count-count.ensures, c.loop-d-test.false))))
+    let a = c.args in
+    sym (rule_none a.form.now a.i c.requires.0.there (ground_in a.left a.terms.now)
+    (λ x h. c.loop-d.invariant x (omega (arith, c.disjunct_count-count.ensures, c.loop-d-test.false))))

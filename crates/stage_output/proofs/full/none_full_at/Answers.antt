@@ -12,35 +12,30 @@ use Rattle.stage_output.proofs.full.none_full_at.Goals as goal
 
 pub overflow_add-i : goal.overflow_add-i
 overflow_add-i c =
-    let s = c in
-    let a = s.args in
-    omega (arith, place_small a.form.now a.before.now s.requires.0.held s.requires.0.numbered a.i a.d s.requires.0.there s.requires.1)
+    let a = c.args in
+    omega (arith, place_small a.form.now a.before.now c.requires.0.held c.requires.0.numbered a.i a.d c.requires.0.there c.requires.1)
 
 pub offset_bounds-before-i : goal.offset_bounds-before-i
 offset_bounds-before-i c =
-    let s = c in
-    let a = s.args in
-    omega (arith, place_small a.form.now a.before.now s.requires.0.held s.requires.0.numbered a.i a.d s.requires.0.there s.requires.1)
+    let a = c.args in
+    omega (arith, place_small a.form.now a.before.now c.requires.0.held c.requires.0.numbered a.i a.d c.requires.0.there c.requires.1)
 
 pub bounds-before-i : goal.bounds-before-i
 bounds-before-i c =
-    let s = c in
-    let a = s.args in
-    before_room a.form.now a.before.now s.requires.0.held s.requires.0.numbered a.i a.d s.requires.0.there s.requires.1
+    let a = c.args in
+    before_room a.form.now a.before.now c.requires.0.held c.requires.0.numbered a.i a.d c.requires.0.there c.requires.1
 
 pub none_full_behind-requires : goal.none_full_behind-requires
 none_full_behind-requires c =
-    let s = c in
-    let a = s.args in (
-      s.requires.2,
-      before_few a.form.now a.before.now s.requires.0.held s.requires.0.numbered a.i a.d s.requires.0.there s.requires.1,
+    let a = c.args in (
+      c.requires.2,
+      before_few a.form.now a.before.now c.requires.0.held c.requires.0.numbered a.i a.d c.requires.0.there c.requires.1,
       omega (arith, c.skolem_count-count.ensures, existential_few (rule_of a.form.now a.i) (disjunct_of a.form.now a.i a.d)),
     )
 
 pub returns : goal.returns
 returns c =
-    let s = c in
-    let a = s.args in
-    let p = before_is a.form.now a.before.now s.requires.0.held s.requires.0.numbered a.i a.d s.requires.0.there s.requires.1 in
+    let a = c.args in
+    let p = before_is a.form.now a.before.now c.requires.0.held c.requires.0.numbered a.i a.d c.requires.0.there c.requires.1 in
     c.none_full_behind.ensures
-    ∙ ap (all (none_full_of (ground_in a.left a.terms.now))) (functions_numbered a.form.now a.i s.requires.0.there s.requires.0.held a.d s.requires.1 p c.skolem_count-count.ensures)
+    ∙ ap (all (none_full_of (ground_in a.left a.terms.now))) (functions_numbered a.form.now a.i c.requires.0.there c.requires.0.held a.d c.requires.1 p c.skolem_count-count.ensures)

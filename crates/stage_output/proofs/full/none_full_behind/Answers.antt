@@ -15,24 +15,21 @@ loop-k-init c = λ x l. absurd (omega arith)
 
 pub returns-then-not-none_full_of : goal.returns-then-not-none_full_of
 returns-then-not-none_full_of c =
-    let l = c in
-    let a = l.args in
+    let a = c.args in
     let r = c.none_full_of in
-    let e : suc a.before + l.loop-k.k ≡ a.before + 1 + l.loop-k.k = omega arith in
+    let e : suc a.before + c.loop-k.k ≡ a.before + 1 + c.loop-k.k = omega arith in
     let p = none_full_of (ground_in a.left a.terms.now) in
-    sym (not_numbers p (suc a.before) a.count l.loop-k.k c.loop-k-test.true (ap p e ∙ sym r.ensures ∙ c.if-not-none_full_of.true))
+    sym (not_numbers p (suc a.before) a.count c.loop-k.k c.loop-k-test.true (ap p e ∙ sym r.ensures ∙ c.if-not-none_full_of.true))
 
 pub loop-k-preserved : goal.loop-k-preserved
 loop-k-preserved c =
-    let l = c in
-    let a = l.args in
+    let a = c.args in
     let r = c.none_full_of in
-    let e : suc a.before + l.loop-k.k ≡ a.before + 1 + l.loop-k.k = omega arith in
+    let e : suc a.before + c.loop-k.k ≡ a.before + 1 + c.loop-k.k = omega arith in
     let p = none_full_of (ground_in a.left a.terms.now) in
-    below_more (λ (x : ℕ). p (suc a.before + x) ≡ true) l.loop-k.k l.loop-k.invariant (ap p e ∙ sym r.ensures ∙ c.if-not-none_full_of.false)
+    below_more (λ (x : ℕ). p (suc a.before + x) ≡ true) c.loop-k.k c.loop-k.invariant (ap p e ∙ sym r.ensures ∙ c.if-not-none_full_of.false)
 
 pub returns : goal.returns
 returns c =
-    let l = c in
-    let a = l.args in
-    sym (all_numbers (none_full_of (ground_in a.left a.terms.now)) (suc a.before) a.count (λ x h. l.loop-k.invariant x (omega arith)))
+    let a = c.args in
+    sym (all_numbers (none_full_of (ground_in a.left a.terms.now)) (suc a.before) a.count (λ x h. c.loop-k.invariant x (omega arith)))

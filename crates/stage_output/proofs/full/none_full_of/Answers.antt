@@ -9,6 +9,5 @@ use Rattle.stage_output.proofs.full.none_full_of.Goals as goal
 pub returns : goal.returns
 returns c =
     let n = c.nests_in_marked in
-    let s = c in
-    let few = s.requires.few in
-    ap not n.ensures.0 ∙ full_marked s.requires s.args.f _ (λ k l. get_or-replicate 512 k 1 0 (omega arith))
+    let few = c.requires.few in
+    ap not n.ensures.0 ∙ full_marked c.requires c.args.f _ (λ k l. get_or-replicate 512 k 1 0 (omega arith))

@@ -17,9 +17,8 @@ use Rattle.stage_reasons.proofs.reason.blocked_outside.Goals as goal
 
 pub test-requires : goal.test-requires
 test-requires c =
-    let s = c in
-    let a = s.args in
-    let p = s.requires in
+    let a = c.args in
+    let p = c.requires in
     (p.0, p.1, subst (Testing a.form.now a.i (rows 10 a.left.terms a.terms.now)) (sym c.starred-least.ensures) p.2)
 
 -- what the test of the starred trigger answers

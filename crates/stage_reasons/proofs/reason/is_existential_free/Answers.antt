@@ -23,28 +23,22 @@ skolem_count-requires c = let p = c.requires in (p.held, p.within, omega (arith,
 pub returns-then-skolem_count-ne0 : goal.returns-then-skolem_count-ne0
 unfolding disjunct_of existential_free
 returns-then-skolem_count-ne0 c =
-    let l = c in
-    let s = l in
     let t = c.loop-d-test.true in
     let k = c.skolem_count in
-    let r = rule_of s.args.form.now s.args.i in
-    sym (l.loop-d.invariant.1 ∙ all_stopped (existential_free r) r.head l.loop-d.d [] (omega (arith, l.loop-d.invariant.0.count)) (ap (λ (n : ℕ). eqb n 0) (sym k.ensures) ∙ ne_eqb k.result 0 c.if-skolem_count-ne0.true))
+    let r = rule_of c.args.form.now c.args.i in
+    sym (c.loop-d.invariant.1 ∙ all_stopped (existential_free r) r.head c.loop-d.d [] (omega (arith, c.loop-d.invariant.0.count)) (ap (λ (n : ℕ). eqb n 0) (sym k.ensures) ∙ ne_eqb k.result 0 c.if-skolem_count-ne0.true))
 
 pub loop-d-preserved : goal.loop-d-preserved
 unfolding disjunct_of existential_free
 loop-d-preserved c =
-    let l = c in
-    let s = l in
     let t = c.loop-d-test.true in
     let k = c.skolem_count in
-    let r = rule_of s.args.form.now s.args.i in (
-      next_turn l.loop-d.invariant.0 (omega arith),
-      l.loop-d.invariant.1 ∙ all_passed (existential_free r) r.head l.loop-d.d [] (omega (arith, l.loop-d.invariant.0.count)) (ap (λ (n : ℕ). eqb n 0) (sym k.ensures) ∙ eq-eqb k.result 0 c.if-skolem_count-ne0.false),
+    let r = rule_of c.args.form.now c.args.i in (
+      next_turn c.loop-d.invariant.0 (omega arith),
+      c.loop-d.invariant.1 ∙ all_passed (existential_free r) r.head c.loop-d.d [] (omega (arith, c.loop-d.invariant.0.count)) (ap (λ (n : ℕ). eqb n 0) (sym k.ensures) ∙ eq-eqb k.result 0 c.if-skolem_count-ne0.false),
     )
 
 pub returns : goal.returns
 returns c =
-    let l = c in
-    let s = l in
-    let r = rule_of s.args.form.now s.args.i in
-    sym (l.loop-d.invariant.1 ∙ all_end (existential_free r) r.head l.loop-d.d (omega (arith, l.loop-d.invariant.0.count)))
+    let r = rule_of c.args.form.now c.args.i in
+    sym (c.loop-d.invariant.1 ∙ all_end (existential_free r) r.head c.loop-d.d (omega (arith, c.loop-d.invariant.0.count)))

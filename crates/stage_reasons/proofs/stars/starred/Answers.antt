@@ -12,13 +12,11 @@ loop-v-init c = starred_none c.args.set c.args.trigger
 
 pub loop-v-preserved : goal.loop-v-preserved
 loop-v-preserved c =
-    let d = c in
-    let l = d in
-    let a = l.args in
-    let v = l.loop-v.v in
+    let a = c.args in
+    let v = c.loop-v.v in
     elim c.if-contains.branch [
-      | then-contains w ↦ subst (λ (row : List ℕ). StarredTo a.set a.trigger row (v + 1)) (sym w.row-is) (starred_with a.set a.trigger v d.loop-v-test.true l.loop-v.invariant (sym d.contains.ensures ∙ w.if-contains.true))
-      | else-contains w ↦ subst (λ (row : List ℕ). StarredTo a.set a.trigger row (v + 1)) (sym w.row-is) (starred_without a.set a.trigger v d.loop-v-test.true l.loop-v.invariant (sym d.contains.ensures ∙ w.if-contains.false))
+      | then-contains w ↦ subst (λ (row : List ℕ). StarredTo a.set a.trigger row (v + 1)) (sym w.row-is) (starred_with a.set a.trigger v c.loop-v-test.true c.loop-v.invariant (sym c.contains.ensures ∙ w.if-contains.true))
+      | else-contains w ↦ subst (λ (row : List ℕ). StarredTo a.set a.trigger row (v + 1)) (sym w.row-is) (starred_without a.set a.trigger v c.loop-v-test.true c.loop-v.invariant (sym c.contains.ensures ∙ w.if-contains.false))
     ]
 
 pub returns : goal.returns
