@@ -99,7 +99,7 @@ pub fn number(bytes: &[u8], version: u8, low: u16, high: u16, refusal: Refusal, 
     narrow_number(bytes, low, high, refusal, i)
 }
 
-// A variable of an atom.
+// A variable of an atom: C-16 widens this reading alone.
 pub fn variable(bytes: &[u8], i: usize) -> Step<u8>
     ensures { parsed_of result ≡ format.variable bytes.now i }
 {
