@@ -3,7 +3,7 @@ use mathlib.Core.Path.{◌≡◌, refl, sym, ap, ap₂, ◌∙◌}
 use mathlib.Core.Bool.{Bool, true, false, ◌&&◌, ◌||◌, or_assoc, or-false}
 use mathlib.Core.Logic.{⊎_elim}
 use mathlib.Core.List.{List, [], ◌∷◌, Memᴰ}
-use Prim.Native.Nat.{ℕ, zero, suc, max, ◌+◌, ◌*◌, ◌≤◌, ◌<◌}
+use Prim.Native.Nat.{ℕ, zero, suc, max, ◌+◌, ◌≤◌, ◌<◌}
 use native.Mathlib.Numerals.{add-one}
 use native.Mathlib.Omega.{arith}
 use native.Mathlib.Decide.{dec_lt}
@@ -34,11 +34,6 @@ raised_more t i j x marks h = ap (λ (as' : List ℕ). raised as' x marks) (argu
 pub raised_end : (t : List ℕ) (i j x : ℕ) (marks : List ℕ) → arity_of t i ≤ j → raised (drop j (arguments_of t i)) x marks ≡ marks
 unfolding raised
 raised_end t i j x marks h = ap (λ (as' : List ℕ). raised as' x marks) (arguments_of_end t i j h)
-
--- a term's arguments have marks of their own
-pub marked_arguments : {count : ℕ} {t : List ℕ} → Ordered count t → (marks : List ℕ) → count ≤ length marks → (n : ℕ) → n < count
-    → (suc n * 10 ≤ length t) × (arity_of t n ≤ 8) × ((j : ℕ) → j < arity_of t n → argument_of t n j < length marks)
-marked_arguments o marks m n h = (omega (arith, o.room), o.arity n h, λ j k. omega (arith, o.before n j h k))
 
 -- what passes a depth
 
