@@ -21,7 +21,7 @@ fn put_column(table: &[u16], shape: Shape, j: usize, out: &mut [u8], at: usize)
     let mut place = j;
     let mut end = at;
     for i in 0..count {
-        put_number(table[place].wrapping_sub(above), &mut *out, end);
+        put_number(table[place].wrapping_sub(above), out, end);
         above = table[place];
         place += width;
         end += 2;
@@ -37,7 +37,7 @@ pub fn put_columns(table: &[u16], shape: Shape, out: &mut [u8], at: usize)
     let count = shape.count;
     let mut end = at;
     for j in 0..width {
-        put_column(table, shape, j, &mut *out, end);
+        put_column(table, shape, j, out, end);
         end += 2 * count;
     }
 }

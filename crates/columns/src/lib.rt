@@ -90,8 +90,8 @@ fn put_head(t: usize, f: usize, out: &mut [u8])
     let length = (store_length(t, f) - LENGTH_BYTES) as u32;
     out[..LENGTH_BYTES].copy_from_slice(&length.to_be_bytes());
     out[VERSION_PLACE] = VERSION;
-    put_number(t as u16, &mut *out, TERMS_PLACE);
-    put_number(f as u16, &mut *out, FACTS_PLACE);
+    put_number(t as u16, out, TERMS_PLACE);
+    put_number(f as u16, out, FACTS_PLACE);
 }
 
 // Lays t terms and f facts of the tables down in `out`, and answers how many bytes they take. Tables below their front parts, or an output
@@ -99,29 +99,20 @@ fn put_head(t: usize, f: usize, out: &mut [u8])
 pub fn pack(t: usize, f: usize, terms: &[u16], facts: &[u16], out: &mut [u8]) -> Transfer
     ensures { Packs t f terms.now facts.now out.old result out.new }
 {
-    if terms.len() < TERMS_FRONT {
+    if terms.len() < TERMS_FRONT || facts.len() < FACTS_FRONT || out.len() < STORE_ROOM {
         return Err(SHORT_LIST);
     }
-    if facts.len() < FACTS_FRONT {
-        return Err(SHORT_LIST);
-    }
-    if out.len() < STORE_ROOM {
-        return Err(SHORT_LIST);
-    }
-    if TERM_LIMIT < t {
+    if TERM_LIMIT < t || FACT_LIMIT < f {
         return Err(NO_STORE);
     }
-    if FACT_LIMIT < f {
-        return Err(NO_STORE);
-    }
-    put_head(t, f, &mut *out);
+    put_head(t, f, out);
     put_columns(
         terms,
         Shape {
             width: TERM_WIDTH,
             count: t,
         },
-        &mut *out,
+        out,
         HEAD_LENGTH,
     );
     put_columns(
@@ -130,7 +121,7 @@ pub fn pack(t: usize, f: usize, terms: &[u16], facts: &[u16], out: &mut [u8]) ->
             width: FACT_WIDTH,
             count: f,
         },
-        &mut *out,
+        out,
         HEAD_LENGTH + t * TERM_BYTES,
     );
     Ok(store_length(t, f))
@@ -140,10 +131,7 @@ pub fn pack(t: usize, f: usize, terms: &[u16], facts: &[u16], out: &mut [u8]) ->
 fn fits(t: usize, f: usize, n: usize) -> bool
     ensures { result ≡ within t f && eqb (store_length t f) n }
 {
-    if TERM_LIMIT < t {
-        return false;
-    }
-    if FACT_LIMIT < f {
+    if TERM_LIMIT < t || FACT_LIMIT < f {
         return false;
     }
     store_length(t, f) == n
@@ -174,10 +162,7 @@ fn is_sound(store: &[u8]) -> bool
 pub fn unpack(store: &[u8], terms: &mut [u16], facts: &mut [u16]) -> Result<Stored, Refused>
     ensures { Unpacks store.now terms.old facts.old result terms.new facts.new }
 {
-    if terms.len() < TERMS_FRONT {
-        return Err(SHORT_LIST);
-    }
-    if facts.len() < FACTS_FRONT {
+    if terms.len() < TERMS_FRONT || facts.len() < FACTS_FRONT {
         return Err(SHORT_LIST);
     }
     if !is_sound(store) {
@@ -193,7 +178,7 @@ pub fn unpack(store: &[u8], terms: &mut [u16], facts: &mut [u16]) -> Result<Stor
             count: t,
         },
         TERMS_FRONT,
-        &mut *terms,
+        terms,
     );
     fill(
         store,
@@ -203,7 +188,7 @@ pub fn unpack(store: &[u8], terms: &mut [u16], facts: &mut [u16]) -> Result<Stor
             count: f,
         },
         FACTS_FRONT,
-        &mut *facts,
+        facts,
     );
     Ok(Stored { terms: t, facts: f })
 }

@@ -38,7 +38,7 @@ fn take_columns(bytes: &[u8], at: usize, shape: Shape, table: &mut [u16])
     let count = shape.count;
     let mut next = at;
     for j in 0..width {
-        take_column(bytes, next, shape, j, &mut *table);
+        take_column(bytes, next, shape, j, table);
         next += 2 * count;
     }
 }
@@ -50,6 +50,6 @@ pub fn fill(bytes: &[u8], at: usize, shape: Shape, front: usize, table: &mut [u1
     ensures { table.new ≡ fronted front (raised shape.width shape.count (numbers_of (drop at bytes.now))) table.old }
 {
     let records = shape.count * shape.width;
-    take_columns(bytes, at, shape, &mut *table);
+    take_columns(bytes, at, shape, table);
     table[records..front].fill(0);
 }

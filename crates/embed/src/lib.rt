@@ -45,8 +45,7 @@ pub extern "C" fn rulfjen_check(
 ) -> usize
     ensures { of_checked (checked depth book.now terms.old facts.old) ≡ record { number = result; answer = answer.new; terms = terms.new; facts = facts.new } }
 {
-    let verdict = dmfa::check(book, depth, terms, facts);
-    judgement(verdict, answer)
+    judgement(dmfa::check(book, depth, terms, facts), answer)
 }
 
 // Reads a rule set into a form.
@@ -54,8 +53,7 @@ pub extern "C" fn rulfjen_check(
 pub extern "C" fn rulfjen_read(book: &[u8], form: &mut [u16], value: &mut usize) -> usize
     ensures { of_reading (reading book.now form.old) ≡ record { number = result; value = value.new; list = form.new } }
 {
-    let answer = reader::read(book, form);
-    transfer(answer, value)
+    transfer(reader::read(book, form), value)
 }
 
 // Writes the bytes of a form's rule set.
@@ -63,8 +61,7 @@ pub extern "C" fn rulfjen_read(book: &[u8], form: &mut [u16], value: &mut usize)
 pub extern "C" fn rulfjen_write(form: &[u16], book: &mut [u8], value: &mut usize) -> usize
     ensures { of_writing (writing form.now book.old) ≡ record { number = result; value = value.new; list = book.new } }
 {
-    let answer = writer::write(form, book);
-    transfer(answer, value)
+    transfer(writer::write(form, book), value)
 }
 
 // Writes the text of the check's answer at a depth. The check's tables are local.
@@ -79,6 +76,8 @@ pub extern "C" fn rulfjen_print(
 {
     let mut terms = [0u16; TERMS_FRONT];
     let mut facts = [0u16; FACTS_FRONT];
-    let answer = report::print(book, depth, &mut terms, &mut facts, text);
-    transfer(answer, value)
+    transfer(
+        report::print(book, depth, &mut terms, &mut facts, text),
+        value,
+    )
 }

@@ -14,8 +14,7 @@ use crossing::transfer;
 pub extern "C" fn rulfjen_upgrade(book: &[u8], out: &mut [u8], value: &mut usize) -> usize
     ensures { of_writing (upgrading book.now out.old) ≡ record { number = result; value = value.new; list = out.new } }
 {
-    let answer = upgrade(book, out);
-    transfer(answer, value)
+    transfer(upgrade(book, out), value)
 }
 
 // Writes the bytes of a rule set of version 2 in version 1.
@@ -23,6 +22,5 @@ pub extern "C" fn rulfjen_upgrade(book: &[u8], out: &mut [u8], value: &mut usize
 pub extern "C" fn rulfjen_downgrade(book: &[u8], out: &mut [u8], value: &mut usize) -> usize
     ensures { of_writing (downgrading book.now out.old) ≡ record { number = result; value = value.new; list = out.new } }
 {
-    let answer = downgrade(book, out);
-    transfer(answer, value)
+    transfer(downgrade(book, out), value)
 }

@@ -39,8 +39,7 @@ pub extern "C" fn rulfjen_pack(
 ) -> usize
     ensures { of_packed (packed t f terms.now facts.now store.old) ≡ record { number = result; value = value.new; store = store.new } }
 {
-    let answer = pack(t, f, terms, facts, store);
-    transfer(answer, value)
+    transfer(pack(t, f, terms, facts, store), value)
 }
 
 // Fills the tables with the records of a store.
@@ -53,6 +52,5 @@ pub extern "C" fn rulfjen_unpack(
 ) -> usize
     ensures { of_unpacked (unpacked store.now terms.old facts.old) ≡ record { number = result; counts = counts.new; terms = terms.new; facts = facts.new } }
 {
-    let answer = unpack(store, terms, facts);
-    counted(answer, counts)
+    counted(unpack(store, terms, facts), counts)
 }

@@ -10,19 +10,17 @@ use Rattle.columns_model.specs.Columns.{raised}
 use Rattle.columns_model.specs.Store.{counts, stored_terms, stored_facts}
 use Rattle.columns_model.proofs.Answers.{enough, unpacked_few_terms, unpacked_few_facts, unpacked_faulty, unpacked_good}
 use Rattle.columns_model.proofs.Stores.{parts}
+use Rattle.columns.proofs.unpack.Goals.{then-terms-lt-TERMS_FRONT-via-then-terms-lt-TERMS_FRONT, then-terms-lt-TERMS_FRONT-via-else-terms-lt-TERMS_FRONT+then-facts-lt-FACTS_FRONT}
 use Rattle.columns.proofs.unpack.Goals as goal
 
 -- past the tests
 
 pub returns-then-terms-lt-TERMS_FRONT : goal.returns-then-terms-lt-TERMS_FRONT
 returns-then-terms-lt-TERMS_FRONT c =
-    let a = c.args in
-    unpacked_few_terms a.store.now a.terms.now a.facts.now c.if-terms-lt-TERMS_FRONT.true
-
-pub returns-then-facts-lt-FACTS_FRONT : goal.returns-then-facts-lt-FACTS_FRONT
-returns-then-facts-lt-FACTS_FRONT c =
-    let a = c.args in
-    unpacked_few_facts a.store.now a.terms.now a.facts.now c.if-terms-lt-TERMS_FRONT.false c.if-facts-lt-FACTS_FRONT.true
+    elim c.then-terms-lt-TERMS_FRONT.branch [
+      | then-terms-lt-TERMS_FRONT-via-then-terms-lt-TERMS_FRONT w ↦ unpacked_few_terms _ _ _ w.if-terms-lt-TERMS_FRONT.true
+      | then-terms-lt-TERMS_FRONT-via-else-terms-lt-TERMS_FRONT+then-facts-lt-FACTS_FRONT w ↦ unpacked_few_facts _ _ _ w.if-terms-lt-TERMS_FRONT.false w.if-facts-lt-FACTS_FRONT.true
+    ]
 
 pub returns-then-not-is_sound : goal.returns-then-not-is_sound
 returns-then-not-is_sound c =

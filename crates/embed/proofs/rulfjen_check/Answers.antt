@@ -7,5 +7,5 @@ use Rattle.embed.proofs.rulfjen_check.Goals as goal
 
 pub returns : goal.returns
 returns c =
-    let x = c.check-verdict in
+    let x = c.check in
     ap of_checked x.ensures ∙ check_left (meant x.result) c.judgement.ensures

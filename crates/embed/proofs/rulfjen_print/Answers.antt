@@ -7,5 +7,5 @@ use Rattle.embed.proofs.rulfjen_print.Goals as goal
 
 pub returns : goal.returns
 returns c =
-    let x = c.print-answer in
+    let x = c.print in
     ap of_printing x.ensures ∙ transfer_left (transfer_of x.result) c.transfer.ensures.number c.transfer.ensures.value

@@ -7,5 +7,5 @@ use Rattle.embed.proofs.rulfjen_read.Goals as goal
 
 pub returns : goal.returns
 returns c =
-    let x = c.read-answer in
+    let x = c.read in
     ap of_reading x.ensures ∙ transfer_left (transfer_of x.result) c.transfer.ensures.number c.transfer.ensures.value

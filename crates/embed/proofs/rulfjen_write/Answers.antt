@@ -7,5 +7,5 @@ use Rattle.embed.proofs.rulfjen_write.Goals as goal
 
 pub returns : goal.returns
 returns c =
-    let x = c.write-answer in
+    let x = c.write in
     ap of_writing x.ensures ∙ transfer_left (transfer_of x.result) c.transfer.ensures.number c.transfer.ensures.value

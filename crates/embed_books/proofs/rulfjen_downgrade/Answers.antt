@@ -7,5 +7,5 @@ use Rattle.embed_books.proofs.rulfjen_downgrade.Goals as goal
 
 pub returns : goal.returns
 returns c =
-    let x = c.downgrade-answer in
+    let x = c.downgrade in
     ap of_writing x.ensures ∙ transfer_left (transfer_of x.result) c.transfer.ensures.number c.transfer.ensures.value

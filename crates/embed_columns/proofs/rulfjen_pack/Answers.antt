@@ -7,5 +7,5 @@ use Rattle.embed_columns.proofs.rulfjen_pack.Goals as goal
 
 pub returns : goal.returns
 returns c =
-    let x = c.pack-answer in
+    let x = c.pack in
     ap of_packed x.ensures ∙ pack_left (transfer_of x.result) c.transfer.ensures.number c.transfer.ensures.value

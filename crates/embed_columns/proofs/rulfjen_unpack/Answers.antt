@@ -7,5 +7,5 @@ use Rattle.embed_columns.proofs.rulfjen_unpack.Goals as goal
 
 pub returns : goal.returns
 returns c =
-    let x = c.unpack-answer in
+    let x = c.unpack in
     ap of_unpacked x.ensures ∙ unpack_left (answer_of x.result) c.counted.ensures
