@@ -42,10 +42,16 @@ fn convert(bytes: &[u8], from: u8, to: u8, out: &mut [u8]) -> Transfer
     ensures { Converts from to bytes.now out.old result out.new }
 {
     if out.len() < BYTES_LIMIT {
-        return Err(Refused { refusal: Refusal::ShortList, place: 0 });
+        return Err(Refused {
+            refusal: Refusal::ShortList,
+            place: 0,
+        });
     }
     if !reader::is_whole(bytes) {
-        return Err(Refused { refusal: Refusal::Length, place: 0 });
+        return Err(Refused {
+            refusal: Refusal::Length,
+            place: 0,
+        });
     }
     opening(bytes, from)?;
     rewrite(bytes, to, out)

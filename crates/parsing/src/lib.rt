@@ -52,7 +52,10 @@ pub fn byte(bytes: &[u8], low: u8, high: u8, refusal: Refusal, i: usize) -> Step
     ensures { parsed_of result ≡ format.byte bytes.now low high (number_of refusal) i }
 {
     if bytes.len() <= i {
-        return Err(Refused { refusal: Refusal::End, place: bytes.len() });
+        return Err(Refused {
+            refusal: Refusal::End,
+            place: bytes.len(),
+        });
     }
     let value = bytes[i];
     if value < low || high < value {
@@ -90,7 +93,14 @@ fn wide_number(bytes: &[u8], low: u16, high: u16, refusal: Refusal, i: usize) ->
 }
 
 // A number from low to high at i, as long as the version has it: a count of predicates, or a predicate.
-pub fn number(bytes: &[u8], version: u8, low: u16, high: u16, refusal: Refusal, i: usize) -> Step<u16>
+pub fn number(
+    bytes: &[u8],
+    version: u8,
+    low: u16,
+    high: u16,
+    refusal: Refusal,
+    i: usize,
+) -> Step<u16>
     ensures { parsed_of result ≡ format.number (rules.wide version) bytes.now low high (number_of refusal) i }
 {
     if is_wide(version) {

@@ -44,7 +44,10 @@ fn variables(bytes: &[u8], n: usize, i: usize, kept: u8, row: &mut [u16]) -> Ste
         set |= 1 << v.value;
         at = v.next;
     }
-    Ok(Parsed { value: set, next: at })
+    Ok(Parsed {
+        value: set,
+        next: at,
+    })
 }
 
 // An atom into a row of zeros; the value is the set that was handed over, grown by its variables.
@@ -53,7 +56,14 @@ fn atom(bytes: &[u8], version: u8, arities: &[u16], i: usize, kept: u8, row: &mu
     requires row_value { row.old ≡ zeros fact_width }
     ensures { Filled (grown_by_atom kept) atom_row (format.atom bytes.now (signed version arities.now) i) result row.new }
 {
-    let p = number(bytes, version, 0, (arities.len() - 1) as u16, Refusal::Symbol, i)?;
+    let p = number(
+        bytes,
+        version,
+        0,
+        (arities.len() - 1) as u16,
+        Refusal::Symbol,
+        i,
+    )?;
     row[0] = p.value;
     let n = usize::from(arities[usize::from(p.value)]);
     variables(bytes, n, p.next, kept, &mut row[1..])
@@ -87,7 +97,10 @@ fn many_atoms(
         set = grown.value;
         at = grown.next;
     }
-    Ok(Parsed { value: set, next: at })
+    Ok(Parsed {
+        value: set,
+        next: at,
+    })
 }
 
 // A count of one to four, and so many atoms, into a row of zeros; the value is the set of their variables.
@@ -136,7 +149,10 @@ fn many_disjuncts(
         heads = heads.with(set.value, body);
         at = set.next;
     }
-    Ok(Parsed { value: heads.refusal(), next: at })
+    Ok(Parsed {
+        value: heads.refusal(),
+        next: at,
+    })
 }
 
 // A rule into a row of zeros, 8 and then 9 tested after its last byte.
@@ -159,7 +175,10 @@ fn rule(bytes: &[u8], version: u8, arities: &[u16], i: usize, row: &mut [u16]) -
     )?;
     match head.value {
         Some(refusal) => Err(Refused { refusal, place: i }),
-        None => Ok(Parsed { value: (), next: head.next }),
+        None => Ok(Parsed {
+            value: (),
+            next: head.next,
+        }),
     }
 }
 
@@ -188,7 +207,10 @@ fn many_rules(
         )?;
         at = read.next;
     }
-    Ok(Parsed { value: (), next: at })
+    Ok(Parsed {
+        value: (),
+        next: at,
+    })
 }
 
 // A count of at most 64, and so many rules, into a row of zeros.
@@ -220,17 +242,14 @@ fn many_arities(bytes: &[u8], n: usize, i: usize, row: &mut [u16]) -> Step<()>
         row[k] = u16::from(arity.value);
         at = arity.next;
     }
-    Ok(Parsed { value: (), next: at })
+    Ok(Parsed {
+        value: (),
+        next: at,
+    })
 }
 
 // What follows the arities, with them and the version, into a form of zeros.
-fn after_arities(
-    bytes: &[u8],
-    version: u8,
-    arities: &[u16],
-    i: usize,
-    form: &mut [u16],
-) -> Step<()>
+fn after_arities(bytes: &[u8], version: u8, arities: &[u16], i: usize, form: &mut [u16]) -> Step<()>
     requires arities { Arities arities.now }
     requires form_value { form.old ≡ zeros form_length }
     ensures { Filled none encoded (after_arities bytes.now version arities.now i) result form.new }
@@ -242,7 +261,10 @@ fn after_arities(
     if read.next == bytes.len() {
         return Ok(read);
     }
-    Err(Refused { refusal: Refusal::End, place: read.next })
+    Err(Refused {
+        refusal: Refusal::End,
+        place: read.next,
+    })
 }
 
 // What follows the count of predicates, into a form of zeros.
@@ -262,7 +284,14 @@ fn rule_set(bytes: &[u8], form: &mut [u16]) -> Step<()>
 {
     let version = byte(bytes, 1, LAST_VERSION, Refusal::Version, 4)?;
     let most = most_predicates(version.value);
-    let n = number(bytes, version.value, 1, most, Refusal::Predicates, version.next)?;
+    let n = number(
+        bytes,
+        version.value,
+        1,
+        most,
+        Refusal::Predicates,
+        version.next,
+    )?;
     after_count(bytes, version.value, usize::from(n.value), n.next, form)
 }
 
@@ -287,7 +316,10 @@ pub fn read_afresh(bytes: &[u8], form: &mut [u16]) -> Transfer
     ensures { ReadsAfresh bytes.now result form.new }
 {
     if !is_whole(bytes) {
-        return Err(Refused { refusal: Refusal::Length, place: 0 });
+        return Err(Refused {
+            refusal: Refusal::Length,
+            place: 0,
+        });
     }
     let read = rule_set(bytes, form)?;
     Ok(read.next)
@@ -298,7 +330,10 @@ pub fn read(bytes: &[u8], form: &mut [u16]) -> Transfer
     ensures { Reads bytes.now form.old result form.new }
 {
     if form.len() < LENGTH {
-        return Err(Refused { refusal: Refusal::ShortList, place: 0 });
+        return Err(Refused {
+            refusal: Refusal::ShortList,
+            place: 0,
+        });
     }
     let mut local = [0u16; LENGTH];
     let end = read_afresh(bytes, &mut local[..])?;
