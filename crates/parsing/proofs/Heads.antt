@@ -18,7 +18,7 @@ use Rattle.laws.proofs.Lists.{any_mem, mem_any, member_mem, mem_member, any_appe
 use Rattle.laws.proofs.Rules.{in_body_small, in_body_member, existential_mem, existential_small, mem_existential}
 use Rattle.form_variables.specs.Sets.{has, set_of}
 use Rattle.parsing.specs.Step.{atom_set, atoms_set}
-use Rattle.core.specs.declared.option.Option.TheVariants.{Some, None}
+use Rattle.std.specs.declared.option.Option.TheVariants.{Some, None}
 use Rattle.refusal.specs.declared.Refusal.{Refusal}
 use Rattle.refusal.specs.declared.Refusal.TheVariants.{Repeated, Detached}
 use Rattle.refusal.specs.Numbers.{number_of}

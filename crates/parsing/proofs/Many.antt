@@ -11,7 +11,7 @@ use borrow.Rule.Slice.PartMut.{same_len_mid}
 use Rattle.model.specs.Lists.{collect, padded}
 use Rattle.model.specs.Format.{Parsed, good, bad, and_then, many}
 use Rattle.laws.proofs.Lists.{collect_append}
-use Rattle.core.specs.declared.result.Result.TheVariants.{Ok, Err}
+use Rattle.std.specs.declared.result.Result.TheVariants.{Ok, Err}
 use Rattle.refusal.specs.declared.Refused.{Refused}
 use Rattle.refusal.specs.Numbers.{number_of}
 use Rattle.parsing.specs.Step.{kept_of, zeros, Filled}

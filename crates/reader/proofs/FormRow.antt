@@ -6,8 +6,8 @@ use native.Mathlib.Omega.{arith}
 use lib.ListN.{length, take, drop, set, length-append, length-set}
 use lib.Seq.{take_at, drop_at, set_at}
 use borrow.Author.Tests.{eq-eqb, ne_eqb}
-use Rattle.core.specs.declared.result.Result.{Result}
-use Rattle.core.specs.declared.result.Result.TheVariants.{Ok, Err}
+use Rattle.std.specs.declared.result.Result.{Result}
+use Rattle.std.specs.declared.result.Result.TheVariants.{Ok, Err}
 use Rattle.refusal.specs.declared.Refusal.TheVariants.{End}
 use Rattle.refusal.specs.declared.Refused.{Refused}
 use Rattle.model.specs.Lists.{padded, collect}

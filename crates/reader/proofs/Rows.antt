@@ -3,7 +3,7 @@ use mathlib.Core.Path.{◌≡◌, refl, sym, ap, ◌∙◌}
 use mathlib.Core.List.{List, ◌∷◌, ◌++◌}
 use Prim.Native.Nat.{ℕ, suc, ◌-◌}
 use lib.ListN.{length, get_or, take, drop, set}
-use Rattle.core.specs.declared.result.Result.{Result}
+use Rattle.std.specs.declared.result.Result.{Result}
 use Rattle.refusal.specs.declared.Refused.{Refused}
 use Rattle.model.specs.Lists.{padded, collect}
 use Rattle.model.specs.Rules.{wide}
