@@ -44,9 +44,6 @@ check_large-requires c =
       facts_long = omega (arith, d.auto.facts, c.requires.3);
     }
 
-pub returns-in-Some : goal.returns-in-Some
-returns-in-Some c = c.in-Some.ensures
-
 pub shape_of-terms-in-None : goal.shape_of-terms-in-None
 shape_of-terms-in-None c = c.check_large.auto.terms ∙ c.check_small.auto.terms
 
