@@ -12,7 +12,7 @@ use Rattle.model.specs.Form.{spaced}
 use Rattle.laws.specs.Lists.{rising}
 use Rattle.laws.proofs.Lists.{collect_append}
 use Rattle.columns_model.specs.Differences.{difference, differences, two_bytes}
-use Rattle.columns_model.specs.Columns.{column, columns}
+use Rattle.columns_model.specs.Columns.{column}
 use Rattle.columns_model.proofs.Differences.{length_bytes, length_differences}
 use Rattle.columns_model.proofs.Columns.{length_column}
 

@@ -8,7 +8,6 @@ use lib.Seq.{take_all}
 use Rattle.std.specs.Prelude.{Result, Ok, Err}
 use Rattle.std.specs.Result.{result_unwrap_or}
 use Rattle.refusal.specs.declared.Refused.{Refused}
-use Rattle.refusal.specs.Numbers.{number_of}
 use Rattle.model.specs.Form as form
 use Rattle.model.specs.Limits.{input_limit, terms_front, facts_front, program_depth}
 use Rattle.model.specs.Text.{printed}

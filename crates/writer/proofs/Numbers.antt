@@ -1,17 +1,16 @@
 -- Numbers of one byte or two, as they are written. Assumes nothing.
 use mathlib.Core.Path.{◌≡◌, refl, sym, ◌∙◌, subst}
 use mathlib.Core.Bool.{Bool, true, false}
-use mathlib.Core.List.{List, [], ◌∷◌, ◌++◌}
-use Prim.Native.Nat.{ℕ, ◌+◌, ◌/◌, ◌%◌, ◌≤◌, ◌<◌}
-use native.Mathlib.Omega.{arith}
+use mathlib.Core.List.{List, ◌++◌}
+use Prim.Native.Nat.{ℕ, ◌+◌, ◌≤◌, ◌<◌}
 use lib.ListN.{length, drop}
 use borrow.Rule.Slice.PartMut.{put_mid}
 use Rattle.model.specs.Rules.{wide}
 use Rattle.model.specs.Format.{Parsed, good, number, number_bytes}
-use Rattle.laws_format.proofs.Parsers.{drop_past, drop_place, spelled_pair}
+use Rattle.laws_format.proofs.Parsers.{drop_place, spelled_pair}
 use Rattle.parsing.specs.Step.{none, ranged}
 use Rattle.parsing.proofs.Numbers.{ranged_below, ranged_above, ranged_within, ranged_good, ranged_same, byte_ranged, pair_ranged}
-use Rattle.writer.specs.Writes.{Agree, Writes}
+use Rattle.writer.specs.Writes.{Writes}
 use Rattle.std.specs.Prelude.{Ok, Err}
 use Rattle.refusal.specs.declared.Refusal.{Refusal}
 use Rattle.refusal.specs.Numbers.{number_of}

@@ -6,7 +6,7 @@ use native.Mathlib.Omega.{arith}
 use lib.ListN.{length, get_or, drop}
 use Rattle.model.specs.Lists.{collect}
 use Rattle.model.specs.Rules.{Atom, Rule, wide}
-use Rattle.model.specs.Format.{Parsed, bad, and_then, many, byte, signed, atoms, sound, rule, atoms_bytes, rule_bytes}
+use Rattle.model.specs.Format.{Parsed, and_then, many, byte, signed, atoms, sound, rule, atoms_bytes, rule_bytes}
 use Rattle.model.specs.Form.{spaced, group_at, rule_at}
 use Rattle.laws.proofs.Places.{length_spaced}
 use Rattle.std.specs.Prelude.{Result, Ok, Err, Option, Some, None, ⊤}

@@ -1,8 +1,7 @@
 -- `writer::put_declared` meets its contract: the count of predicates, arities and rules. Assumes nothing.
-use Prim.Native.Nat.{◌+◌, ◌≤◌}
+use Prim.Native.Nat.{◌≤◌}
 use native.Mathlib.Omega.{arith}
 use Rattle.std.proofs.lemmas.Result.{IfOk-weaker}
-use Rattle.model.specs.Rules.{most_predicates}
 use Rattle.laws.proofs.Places.{length_numbers_from}
 use Rattle.laws.proofs.WellFormed.{most_few}
 use Rattle.parsing.proofs.Parsing.{handed_on}

@@ -1,6 +1,5 @@
 -- `writer::put_rule` meets its contract: body, count and disjuncts, and then the whole rule tested. Assumes nothing.
-use mathlib.Core.Path.{◌≡◌, refl}
-use Prim.Native.Nat.{◌+◌}
+use mathlib.Core.Path.{refl}
 use native.Mathlib.Omega.{arith}
 use Rattle.parsing.proofs.Parsing.{handed_on}
 use Rattle.writer.proofs.RuleWriting.{heads_refused, heads_sound, heads_unsound, body_refused, count_refused, rule_written}

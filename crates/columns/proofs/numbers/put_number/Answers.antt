@@ -1,6 +1,6 @@
 -- `columns::numbers::put_number` meets its contract. Assumes nothing.
 use mathlib.Core.Path.{◌≡◌}
-use Prim.Native.Nat.{ℕ, ◌+◌, ◌/◌, ◌%◌}
+use Prim.Native.Nat.{◌+◌, ◌/◌, ◌%◌}
 use native.Mathlib.Omega.{arith}
 use Rattle.columns_model.specs.Differences.{two_bytes}
 use Rattle.columns.proofs.Parts.{part_written}

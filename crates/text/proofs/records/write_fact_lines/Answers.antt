@@ -1,6 +1,5 @@
 -- `text::records::write_fact_lines` meets its contract. The loop's invariant: the first `i` lines are written. Assumes nothing.
 use mathlib.Core.Path.{◌≡◌}
-use mathlib.Core.List.{◌∷◌}
 use Prim.Native.Nat.{ℕ}
 use native.Mathlib.Omega.{arith}
 use Rattle.model.specs.Text.{line, fact_word, fact_numbers, lines}
