@@ -41,18 +41,15 @@ fn tried(
 // Whether a case differs, which is then said.
 pub fn differs(rt: &HostRuntime, line: &[u8]) -> io::Result<bool> {
     if line.len() < NAMES {
-        say::note(rt, line, "no case")?;
-        return Ok(true);
+        return say::note(rt, line, b"no case");
     }
     let first = find(line, NAMES, b' ');
     if line.len() <= first {
-        say::note(rt, line, "no case")?;
-        return Ok(true);
+        return say::note(rt, line, b"no case");
     }
     let second = find(line, first + 1, b' ');
     if line.len() <= second {
-        say::note(rt, line, "no case")?;
-        return Ok(true);
+        return say::note(rt, line, b"no case");
     }
     let mut terms = [0u8; FILE_ROOM];
     let mut facts = [0u8; FILE_ROOM];

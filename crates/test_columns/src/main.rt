@@ -16,19 +16,19 @@ use test_support::{group, say};
 // More bytes than a file of cases has.
 const TEXT_ROOM: usize = 4096;
 
-fn try_group(rt: &HostRuntime, name: &str) -> io::Result<Tally> {
+fn try_group(rt: &HostRuntime, name: &[u8]) -> io::Result<Tally> {
     let mut text = [0u8; TEXT_ROOM];
     group::try_group(rt, name, &mut text, case::differs)
 }
 
 fn main(rt: HostRuntime) -> io::Result<()> {
-    try_group(&rt, "misstated")?;
-    let tally = try_group(&rt, "pack")?
-        .plus(try_group(&rt, "unpack")?)
-        .plus(try_group(&rt, "back")?)
-        .plus(try_group(&rt, "limits")?)
-        .plus(try_group(&rt, "faulty")?)
-        .plus(try_group(&rt, "longer")?)
-        .plus(try_group(&rt, "short")?);
-    say::count(&rt, "all", tally)
+    try_group(&rt, b"misstated")?;
+    let tally = try_group(&rt, b"pack")?
+        .plus(try_group(&rt, b"unpack")?)
+        .plus(try_group(&rt, b"back")?)
+        .plus(try_group(&rt, b"limits")?)
+        .plus(try_group(&rt, b"faulty")?)
+        .plus(try_group(&rt, b"longer")?)
+        .plus(try_group(&rt, b"short")?);
+    say::count(&rt, b"all", tally)
 }

@@ -8,19 +8,12 @@ use crate::converting::{Case, differs as differs_by};
 use crate::hex;
 use converter::{downgrade, upgrade};
 use std::io;
-use test_support::answer::Answer;
-use test_support::column::{find, four, two};
+use test_support::answer::expected;
+use test_support::column::find;
 use test_support::say;
 
 // Where the name begins.
 const NAME: usize = 10;
-
-fn expected(line: &[u8]) -> Answer {
-    Answer {
-        refusal: two(line, 2),
-        place: four(line, 5),
-    }
-}
 
 // Whether a case differs, by what its columns spell; `front` is the line without them.
 fn tried(rt: &HostRuntime, line: &[u8], front: &[u8], book: &[u8], bytes: &[u8]) -> io::Result<bool>
@@ -41,18 +34,15 @@ fn tried(rt: &HostRuntime, line: &[u8], front: &[u8], book: &[u8], bytes: &[u8])
 // Whether a case differs, which is then said.
 pub fn differs(rt: &HostRuntime, line: &[u8]) -> io::Result<bool> {
     if line.len() < NAME {
-        say::note(rt, line, "no case")?;
-        return Ok(true);
+        return say::note(rt, line, b"no case");
     }
     let first = find(line, NAME, b' ');
     if line.len() <= first {
-        say::note(rt, line, "no case")?;
-        return Ok(true);
+        return say::note(rt, line, b"no case");
     }
     let second = find(line, first + 1, b' ');
     if line.len() <= second {
-        say::note(rt, line, "no case")?;
-        return Ok(true);
+        return say::note(rt, line, b"no case");
     }
     let mut book = [0u8; hex::ROOM];
     let mut bytes = [0u8; hex::ROOM];

@@ -46,8 +46,7 @@ fn compared<W: Fn(&[u8], &mut [u8]) -> Transfer>(
     if bytes::is_right(case.written, found.refusal, out) {
         return Ok(false);
     }
-    say::note(rt, case.line, "other bytes")?;
-    Ok(true)
+    say::note(rt, case.line, b"other bytes")
 }
 
 // Whether the answer, the output or the way back differs, over an output that is just long enough and a longer one; and whether an output that is
@@ -71,8 +70,7 @@ pub fn differs<W: Fn(&[u8], &mut [u8]) -> Transfer, B: Fn(&[u8], &mut [u8]) -> T
     }
     if case.answer.refusal == 0 {
         if is_lost(back, case) {
-            say::note(rt, case.line, "not converted back")?;
-            return Ok(true);
+            return say::note(rt, case.line, b"not converted back");
         }
     }
     let mut short = [bytes::MARK; OUTPUT_ROOM - 1];

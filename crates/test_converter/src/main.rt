@@ -15,16 +15,16 @@ use test_support::{group, say};
 // More bytes than a file of cases has.
 const TEXT_ROOM: usize = 65536;
 
-fn try_group(rt: &HostRuntime, name: &str) -> io::Result<Tally> {
+fn try_group(rt: &HostRuntime, name: &[u8]) -> io::Result<Tally> {
     let mut text = [0u8; TEXT_ROOM];
     group::try_group(rt, name, &mut text, case::differs)
 }
 
 fn main(rt: HostRuntime) -> io::Result<()> {
-    try_group(&rt, "misstated")?;
-    let tally = try_group(&rt, "requests")?
-        .plus(try_group(&rt, "upgrade")?)
-        .plus(try_group(&rt, "downgrade")?)
-        .plus(try_group(&rt, "limits")?);
-    say::count(&rt, "all", tally)
+    try_group(&rt, b"misstated")?;
+    let tally = try_group(&rt, b"requests")?
+        .plus(try_group(&rt, b"upgrade")?)
+        .plus(try_group(&rt, b"downgrade")?)
+        .plus(try_group(&rt, b"limits")?);
+    say::count(&rt, b"all", tally)
 }

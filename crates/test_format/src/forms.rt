@@ -1,5 +1,5 @@
 // What `read` leaves of a form that was full of marks.
-use crate::answer::FILE_ROOM;
+use crate::rooms::FILE_ROOM;
 use form::layout::LENGTH;
 use reader::read;
 use std::io;
@@ -70,6 +70,5 @@ pub fn differs(rt: &HostRuntime, book: &[u8], numbers: &[u8]) -> io::Result<bool
     if found == expected {
         return Ok(false);
     }
-    say::note(rt, book, "another form")?;
-    Ok(true)
+    say::note(rt, book, b"another form")
 }

@@ -6,12 +6,12 @@
 // a 3 at place 4, which is no version before C-16.
 #![tactic(auto)]
 
-mod answer;
 mod forms;
 mod reading;
+mod rooms;
 mod writing;
 
-use crate::answer::FILE_ROOM;
+use crate::rooms::FILE_ROOM;
 use std::io;
 use test_support::tally::Tally;
 use test_support::{group, say};
@@ -24,7 +24,7 @@ fn differs(rt: &HostRuntime, line: &[u8]) -> io::Result<bool> {
     reading::differs(rt, line)
 }
 
-fn try_group(rt: &HostRuntime, name: &str) -> io::Result<Tally> {
+fn try_group(rt: &HostRuntime, name: &[u8]) -> io::Result<Tally> {
     let mut text = [0u8; FILE_ROOM];
     group::try_group(rt, name, &mut text, differs)
 }
@@ -37,24 +37,24 @@ fn try_forms(rt: &HostRuntime) -> io::Result<Tally> {
         .with(forms::differs(rt, b"river-2.book", b"river-2.form")?)
         .with(forms::differs(rt, b"lake-2.book", b"lake-2.form")?)
         .with(forms::differs(rt, b"c15-predicate-256.book", b"c15-predicate-256.form")?);
-    say::count(rt, "forms", tally)?;
+    say::count(rt, b"forms", tally)?;
     Ok(tally)
 }
 
 fn main(rt: HostRuntime) -> io::Result<()> {
-    try_group(&rt, "misstated")?;
+    try_group(&rt, b"misstated")?;
     forms::differs(&rt, b"river.book", b"lake.form")?;
     forms::differs(&rt, b"river.book", b"river-2.form")?;
-    let tally = try_group(&rt, "refusals")?
-        .plus(try_group(&rt, "damaged")?)
-        .plus(try_group(&rt, "random")?)
-        .plus(try_group(&rt, "papers")?)
-        .plus(try_group(&rt, "longest")?)
-        .plus(try_group(&rt, "lengths")?)
-        .plus(try_group(&rt, "requests")?)
-        .plus(try_group(&rt, "generated")?)
+    let tally = try_group(&rt, b"refusals")?
+        .plus(try_group(&rt, b"damaged")?)
+        .plus(try_group(&rt, b"random")?)
+        .plus(try_group(&rt, b"papers")?)
+        .plus(try_group(&rt, b"longest")?)
+        .plus(try_group(&rt, b"lengths")?)
+        .plus(try_group(&rt, b"requests")?)
+        .plus(try_group(&rt, b"generated")?)
         .plus(try_forms(&rt)?)
-        .plus(try_group(&rt, "writing")?)
-        .plus(try_group(&rt, "versions")?);
-    say::count(&rt, "all", tally)
+        .plus(try_group(&rt, b"writing")?)
+        .plus(try_group(&rt, b"versions")?);
+    say::count(&rt, b"all", tally)
 }

@@ -1,10 +1,10 @@
 // A case `r NN PPPP FFFF BOOK` of `read`: a refusal's number, or 0 where the book is read; the refusal's place, or how many bytes are read;
 // how many numbers the lent form has; the book's file. A book that is read is written back.
-use crate::answer::{INPUT_LIMIT, LENT_LIMIT, expected};
 use crate::forms;
+use crate::rooms::{INPUT_LIMIT, LENT_LIMIT};
 use reader::read;
 use std::io;
-use test_support::answer::{is_other, shown};
+use test_support::answer::{expected, is_other, shown};
 use test_support::column::four;
 use test_support::{bytes, file, numbers, say};
 use writer::write;
@@ -26,8 +26,7 @@ fn compared(rt: &HostRuntime, line: &[u8], book: &[u8], form: &mut [u16]) -> io:
         return Ok(true);
     }
     if !forms::is_right(book, found.refusal, form) {
-        say::note(rt, line, "another form")?;
-        return Ok(true);
+        return say::note(rt, line, b"another form");
     }
     if found.refusal != 0 {
         return Ok(false);
@@ -35,15 +34,13 @@ fn compared(rt: &HostRuntime, line: &[u8], book: &[u8], form: &mut [u16]) -> io:
     if is_written_back(form, book) {
         return Ok(false);
     }
-    say::note(rt, line, "not written back")?;
-    Ok(true)
+    say::note(rt, line, b"not written back")
 }
 
 // Whether a case differs, by the front of its book.
 pub fn differs(rt: &HostRuntime, line: &[u8]) -> io::Result<bool> {
     if line.len() < 15 {
-        say::note(rt, line, "no case")?;
-        return Ok(true);
+        return say::note(rt, line, b"no case");
     }
     let Some(file) = file::open(rt, &line[15..])? else {
         return Ok(true);

@@ -1,11 +1,11 @@
 // A case `w NN PPPP BBBB FFFF AAAA VVVV BOOK` of `write`: a refusal's number, or 0 where the form is written; the refusal's place, or how
 // many bytes are written; how many bytes the lent list has, and how many numbers the form; the form is a book's with the number VVVV at the
 // place AAAA. A form that is written is one whose bytes are the book's still.
-use crate::answer::{INPUT_LIMIT, LENT_LIMIT, expected};
 use crate::forms::put;
+use crate::rooms::{INPUT_LIMIT, LENT_LIMIT};
 use reader::read;
 use std::io;
-use test_support::answer::{is_other, shown};
+use test_support::answer::{expected, is_other, shown};
 use test_support::column::four;
 use test_support::{bytes, file, numbers, say};
 use writer::write;
@@ -26,14 +26,12 @@ fn compared(
     if bytes::is_right(book, found.refusal, list) {
         return Ok(false);
     }
-    say::note(rt, line, "other bytes")?;
-    Ok(true)
+    say::note(rt, line, b"other bytes")
 }
 
 pub fn differs(rt: &HostRuntime, line: &[u8]) -> io::Result<bool> {
     if line.len() < 30 {
-        say::note(rt, line, "no case")?;
-        return Ok(true);
+        return say::note(rt, line, b"no case");
     }
     let Some(file) = file::open(rt, &line[30..])? else {
         return Ok(true);

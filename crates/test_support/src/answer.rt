@@ -2,8 +2,9 @@
 ghost use Rattle.std.specs.Prelude.{◌≡◌, not, ◌&&◌, ◌==◌, IfOk};
 ghost use Rattle.reader.specs.Transfer.{transfer_of};
 ghost use Rattle.test_support.specs.Answer.{refusal_of, place_of};
+ghost use Rattle.test_support.specs.Columns.{two, four};
 
-use crate::say;
+use crate::{column, say};
 use reader::Transfer;
 use std::io;
 
@@ -27,6 +28,16 @@ pub fn shown(t: Transfer) -> Answer
             refusal: usize::from(refused.refusal),
             place: refused.place,
         },
+    }
+}
+
+// What a case expects, from its third column on: `NN PPPP`.
+pub fn expected(line: &[u8]) -> Answer
+    ensures { (result.refusal ≡ two line.now 2) × (result.place ≡ four line.now 5) }
+{
+    Answer {
+        refusal: column::two(line, 2),
+        place: column::four(line, 5),
     }
 }
 

@@ -13,7 +13,7 @@ pub fn open(rt: &HostRuntime, path: &[u8]) -> io::Result<Option<File>> {
             return Ok(Some(file));
         }
     }
-    say::note(rt, path, "cannot be opened")?;
+    say::note(rt, path, b"cannot be opened")?;
     Ok(None)
 }
 

@@ -27,13 +27,13 @@ fn try_cases<F: Fn(&HostRuntime, &[u8]) -> io::Result<bool>>(
 // Tries the cases of a file, as far as `text` has room for them; a file that cannot be opened is a difference.
 pub fn try_group<F: Fn(&HostRuntime, &[u8]) -> io::Result<bool>>(
     rt: &HostRuntime,
-    name: &str,
+    name: &[u8],
     text: &mut [u8],
     differs: F,
 ) -> io::Result<Tally>
     requires { F.IsAlwaysCallable differs }
 {
-    let Some(file) = file::open(rt, name.as_bytes())? else {
+    let Some(file) = file::open(rt, name)? else {
         return Ok(Tally::new().with(true));
     };
     let n = file::load(file, &mut *text)?;

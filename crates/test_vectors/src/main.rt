@@ -15,23 +15,23 @@ use test_support::{group, say};
 // More bytes than a group has.
 const FILE_ROOM: usize = 4096;
 
-fn try_group(rt: &HostRuntime, name: &str) -> io::Result<Tally> {
+fn try_group(rt: &HostRuntime, name: &[u8]) -> io::Result<Tally> {
     let mut text = [0u8; FILE_ROOM];
     group::try_group(rt, name, &mut text, printing::differs)
 }
 
 fn main(rt: HostRuntime) -> io::Result<()> {
-    try_group(&rt, "misstated")?;
-    let tally = try_group(&rt, "papers")?
-        .plus(try_group(&rt, "refusals")?)
-        .plus(try_group(&rt, "misreadings")?)
-        .plus(try_group(&rt, "limits")?)
-        .plus(try_group(&rt, "order")?)
-        .plus(try_group(&rt, "depths")?)
-        .plus(try_group(&rt, "version-2")?)
-        .plus(try_group(&rt, "random")?)
-        .plus(try_group(&rt, "damaged")?)
-        .plus(try_group(&rt, "longer")?)
-        .plus(try_group(&rt, "short")?);
-    say::count(&rt, "all", tally)
+    try_group(&rt, b"misstated")?;
+    let tally = try_group(&rt, b"papers")?
+        .plus(try_group(&rt, b"refusals")?)
+        .plus(try_group(&rt, b"misreadings")?)
+        .plus(try_group(&rt, b"limits")?)
+        .plus(try_group(&rt, b"order")?)
+        .plus(try_group(&rt, b"depths")?)
+        .plus(try_group(&rt, b"version-2")?)
+        .plus(try_group(&rt, b"random")?)
+        .plus(try_group(&rt, b"damaged")?)
+        .plus(try_group(&rt, b"longer")?)
+        .plus(try_group(&rt, b"short")?);
+    say::count(&rt, b"all", tally)
 }

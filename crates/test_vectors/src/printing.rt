@@ -65,14 +65,12 @@ fn compared(
         return Ok(true);
     }
     if !bytes::is_right(text, found.refusal, out) {
-        say::note(rt, line, "another text")?;
-        return Ok(true);
+        return say::note(rt, line, b"another text");
     }
     if lists::are_right(&line[TABLES_COLUMN..], terms, facts) {
         return Ok(false);
     }
-    say::note(rt, line, "other tables")?;
-    Ok(true)
+    say::note(rt, line, b"other tables")
 }
 
 // Whether `print` differs on a book, over lists that its case names.
@@ -100,13 +98,11 @@ fn tried(rt: &HostRuntime, line: &[u8], book: &[u8], text: &[u8]) -> io::Result<
 // Whether a case differs, by the front of its book.
 pub fn differs(rt: &HostRuntime, line: &[u8]) -> io::Result<bool> {
     if line.len() < BOOK_COLUMN {
-        say::note(rt, line, "no case")?;
-        return Ok(true);
+        return say::note(rt, line, b"no case");
     }
     let space = find(line, BOOK_COLUMN, b' ');
     if line.len() <= space {
-        say::note(rt, line, "no case")?;
-        return Ok(true);
+        return say::note(rt, line, b"no case");
     }
     let Some(file) = file::open(rt, &line[BOOK_COLUMN..space])? else {
         return Ok(true);

@@ -1,6 +1,4 @@
-// What a case expects, from its third column on: `NN PPPP`.
-use test_support::answer::Answer;
-use test_support::column::{four, two};
+// How much room the lists of a case and of a file have.
 
 // One byte more than the longest book has.
 pub const INPUT_LIMIT: usize = 9097;
@@ -10,10 +8,3 @@ pub const LENT_LIMIT: usize = 9999;
 
 // More bytes than a group has, a file of numbers, or the book of a form that is tried number by number.
 pub const FILE_ROOM: usize = 4096;
-
-pub fn expected(line: &[u8]) -> Answer {
-    Answer {
-        refusal: two(line, 2),
-        place: four(line, 5),
-    }
-}
