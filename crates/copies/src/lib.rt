@@ -23,13 +23,7 @@ fn copy(terms: &[u16], count: usize, i: usize, table: &mut [u16], n: usize) -> u
     row[1] = arity;
     let mut m = n;
     for j in 0..usize::from(arity) {
-        m = copy(
-            terms,
-            count,
-            tables::argument(terms, count, i, j),
-            table,
-            m,
-        );
+        m = copy(terms, count, tables::argument(terms, count, i, j), table, m);
         row[2 + j] = (m - 1) as u16;
     }
     terms::append_term(table, m, row);

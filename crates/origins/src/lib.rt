@@ -103,16 +103,7 @@ fn enter_origin(
     let atoms = form::atoms::body(form, i);
     let entered = facts::enter_facts(&atoms, &names, facts, m, limit);
     disjuncts::enter_disjunct(
-        form,
-        before,
-        i,
-        d,
-        names,
-        table,
-        added,
-        facts,
-        entered,
-        limit,
+        form, before, i, d, names, table, added, facts, entered, limit,
     )
 }
 
