@@ -23,16 +23,10 @@ fn copy(terms: &[u16], count: usize, i: usize, table: &mut [u16], n: usize) -> u
     row[1] = arity;
     let mut m = n;
     for j in 0..usize::from(arity) {
-        m = copy(
-            terms,
-            count,
-            tables::argument(terms, count, i, j),
-            &mut *table,
-            m,
-        );
+        m = copy(terms, count, tables::argument(terms, count, i, j), table, m);
         row[2 + j] = (m - 1) as u16;
     }
-    terms::append_term(&mut *table, m, row);
+    terms::append_term(table, m, row);
     m + 1
 }
 
@@ -58,7 +52,7 @@ fn copy_variable(
     ensures { HoldsTerms table.new result.count (copied_at (rows 10 count terms.now) count variables v i (rows 10 n table.old)) × (result.numbers ≡ numbered_at variables v numbers result.count) }
 {
     if form_variables::contains(variables, v) {
-        let m = copy(terms, count, i, &mut *table, n);
+        let m = copy(terms, count, i, table, n);
         let mut next = numbers;
         next[usize::from(v)] = (m - 1) as u16;
         return Renamed {
@@ -82,15 +76,15 @@ pub fn copy_terms(
 {
     let mut numbers: [u16; 8] = [0; 8];
     let mut n = 0;
-    for v in 0..8 {
+    for v in 0u8..8 {
         let copied = copy_variable(
             terms,
             count,
             variables,
-            v as u8,
-            usize::from(assignment[v]),
+            v,
+            usize::from(assignment[usize::from(v)]),
             numbers,
-            &mut *table,
+            table,
             n,
         );
         numbers = copied.numbers;

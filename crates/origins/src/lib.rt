@@ -55,8 +55,8 @@ fn origin_numbers(frontier: u8, others: u8, table: &[u16], j: usize, base: u16) 
     ensures { (v : ℕ) → v < 8 → get_or result v 0 ≡ origin_number frontier others (arguments_in (row 10 j table.now)) base v }
 {
     let mut names: [u16; 8] = [0; 8];
-    for v in 0..8 {
-        names[v] = origin_number(frontier, others, v as u8, table, j, base);
+    for v in 0u8..8 {
+        names[usize::from(v)] = origin_number(frontier, others, v, table, j, base);
     }
     names
 }
@@ -69,7 +69,7 @@ fn add_constants(table: &mut [u16], n: usize, k: usize) -> usize
     let row: [u16; 10] = [0; 10];
     let mut m = n;
     for i in 0..k {
-        terms::append_term(&mut *table, m, row);
+        terms::append_term(table, m, row);
         m += 1;
     }
     m
@@ -95,24 +95,15 @@ fn enter_origin(
     let names = origin_numbers(
         form_variables::frontier_set(form, i),
         others,
-        &*table,
+        table,
         j,
         n as u16,
     );
-    let added = add_constants(&mut *table, n, form_variables::set_size(others));
+    let added = add_constants(table, n, form_variables::set_size(others));
     let atoms = form::atoms::body(form, i);
-    let entered = facts::enter_facts(&atoms, &names, &mut *facts, m, limit);
+    let entered = facts::enter_facts(&atoms, &names, facts, m, limit);
     disjuncts::enter_disjunct(
-        form,
-        before,
-        i,
-        d,
-        names,
-        &mut *table,
-        added,
-        &mut *facts,
-        entered,
-        limit,
+        form, before, i, d, names, table, added, facts, entered, limit,
     )
 }
 
@@ -141,9 +132,9 @@ fn origin_of(
         owner.rule,
         owner.disjunct,
         j,
-        &mut *table,
+        table,
         n,
-        &mut *facts,
+        facts,
         m,
         limit,
     )
@@ -165,7 +156,7 @@ pub fn enter_origins(
     let mut a = n;
     let mut b = m;
     for j in 0..n {
-        let entered = origin_of(form, before, j, &mut *table, a, &mut *facts, b, limit);
+        let entered = origin_of(form, before, j, table, a, facts, b, limit);
         a = entered.terms;
         b = entered.facts;
     }

@@ -12,10 +12,10 @@ pub fn functions(existential: u8, before: u16) -> [u16; 8]
 {
     let mut numbers: [u16; 8] = [0; 8];
     let mut last = before;
-    for v in 0..8 {
-        if form_variables::contains(existential, v as u8) {
+    for v in 0u8..8 {
+        if form_variables::contains(existential, v) {
             last += 1;
-            numbers[v] = last;
+            numbers[usize::from(v)] = last;
         }
     }
     numbers
@@ -28,9 +28,9 @@ pub fn template(frontier: u8, numbers: [u16; 8]) -> [u16; 10]
     let mut row: [u16; 10] = [0; 10];
     row[1] = form_variables::set_size(frontier) as u16;
     let mut place = 2;
-    for v in 0..8 {
-        if form_variables::contains(frontier, v as u8) {
-            row[place] = numbers[v];
+    for v in 0u8..8 {
+        if form_variables::contains(frontier, v) {
+            row[place] = numbers[usize::from(v)];
             place += 1;
         }
     }

@@ -25,7 +25,7 @@ copy_variable-copied-requires c =
     let a = c.args in
     let h : c.loop-v.v < 8 = omega arith in
     let all = subst (λ (d : Copies). Room 12 a.table.now d.terms) (sym (chosen_all (rows 10 a.count a.terms.now) a.count a.variables (value_of a.assignment) (rows_length 10 a.count a.terms.now))) c.requires.2.room in
-    rw c.from.ensures (c.requires.0, h, λ e. c.requires.1 c.loop-v.v h e, record { kept = c.loop-v.invariant.4; room = room_same c.loop-v.table c.loop-v.invariant.0 (chosen_room (rows 10 a.count a.terms.now) a.count a.variables (value_of a.assignment) c.loop-v.v h (rows 10 c.loop-v.n c.loop-v.table) c.loop-v.invariant.2 all) })
+    rw (c.from-in-loop-v.ensures, c.from.ensures) (c.requires.0, h, λ e. c.requires.1 c.loop-v.v h e, record { kept = c.loop-v.invariant.4; room = room_same c.loop-v.table c.loop-v.invariant.0 (chosen_room (rows 10 a.count a.terms.now) a.count a.variables (value_of a.assignment) c.loop-v.v h (rows 10 c.loop-v.n c.loop-v.table) c.loop-v.invariant.2 all) })
 
 pub loop-v-preserved : goal.loop-v-preserved
 loop-v-preserved c =
@@ -33,7 +33,7 @@ loop-v-preserved c =
     let t = c.loop-v-test.true in
     let d = c.copy_variable-copied in
     let h : c.loop-v.v < 8 = omega arith in
-    let held = (rw c.from.ensures at d.ensures.0.rows) ∙ chosen_held (rows 10 a.count a.terms.now) a.count a.variables (value_of a.assignment) c.loop-v.v (rows 10 c.loop-v.n c.loop-v.table) c.loop-v.invariant.2 in
+    let held = (rw (c.from-in-loop-v.ensures, c.from.ensures) at d.ensures.0.rows) ∙ chosen_held (rows 10 a.count a.terms.now) a.count a.variables (value_of a.assignment) c.loop-v.v (rows 10 c.loop-v.n c.loop-v.table) c.loop-v.invariant.2 in
     let each = chosen_each (rows 10 a.count a.terms.now) a.count a.variables (value_of a.assignment) c.loop-v.v h c.loop-v.numbers d.result.count c.loop-v.invariant.1 (sym (rows_length 10 d.result.count d.new.table) ∙ ap length held) c.loop-v.invariant.3 in (
       d.auto.table ∙ c.loop-v.invariant.0,
       ap length d.ensures.1 ∙ each.0,

@@ -21,7 +21,7 @@ loop-v-preserved c =
     let told = c.contains.ensures in
     let inv = c.loop-v.invariant in
     elim c.if-contains.branch [
-      | goal.then-contains w ↦ subst₂ (λ (xs : List ℕ) (n : ℕ). Counted a.existential a.before xs n (c.loop-v.v + 1)) (sym w.numbers-is) (sym w.last-is)
+      | goal.then-contains w ↦ subst₂ (λ (xs : List ℕ) (n : ℕ). Counted a.existential a.before xs n (c.loop-v.v + 1)) (sym (rw w.from.ensures at w.numbers-is)) (sym w.last-is)
           (counted_yes a.existential a.before c.loop-v.numbers c.loop-v.last c.loop-v.v inv (omega arith) (sym told ∙ w.if-contains.true))
       | goal.else-contains w ↦ subst₂ (λ (xs : List ℕ) (n : ℕ). Counted a.existential a.before xs n (c.loop-v.v + 1)) (sym w.numbers-is) (sym w.last-is)
           (counted_no a.existential a.before c.loop-v.numbers c.loop-v.last c.loop-v.v inv (sym told ∙ w.if-contains.false))

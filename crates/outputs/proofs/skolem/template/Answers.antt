@@ -32,7 +32,7 @@ loop-v-preserved c =
     let told = c.contains.ensures in
     let (row, place) = c.loop-v.invariant in (
       elim c.if-contains.branch [
-        | goal.then-contains w ↦ w.row-is ∙ ap₂ (λ (xs : List ℕ) (p : ℕ). set xs p (α c.loop-v.v)) row place ∙ filled_up_more a.frontier α c.loop-v.v (omega arith) (sym told ∙ w.if-contains.true)
+        | goal.then-contains w ↦ (rw w.from.ensures at w.row-is) ∙ ap₂ (λ (xs : List ℕ) (p : ℕ). set xs p (α c.loop-v.v)) row place ∙ filled_up_more a.frontier α c.loop-v.v (omega arith) (sym told ∙ w.if-contains.true)
         | goal.else-contains w ↦ w.row-is ∙ row ∙ filled_up_same a.frontier α c.loop-v.v (sym told ∙ w.if-contains.false)
       ],
       elim c.if-contains.branch [
