@@ -58,14 +58,9 @@ fn check_by(
     requires { Checkable depth form.now before.now terms.old facts.old × KeptTerms room.old 0 × Kept hashed.old 0 fact_room }
     ensures { CheckedAs depth form.now (length room.old) terms.old facts.old result terms.new facts.new }
 {
-    let answer = judge(form, before, &mut *room, &mut *hashed, depth)?;
-    fill(&*room, answer.terms * TERM_WIDTH, TERMS_FRONT, &mut *terms);
-    fill(
-        &*hashed,
-        answer.facts * FACT_WIDTH,
-        FACTS_FRONT,
-        &mut *facts,
-    );
+    let answer = judge(form, before, room, hashed, depth)?;
+    fill(room, answer.terms * TERM_WIDTH, TERMS_FRONT, terms);
+    fill(hashed, answer.facts * FACT_WIDTH, FACTS_FRONT, facts);
     Some(answer.verdict)
 }
 
@@ -85,10 +80,10 @@ fn check_small(
     check_by(
         form,
         before,
-        &mut stage_terms[..],
-        &mut stage_facts[..],
-        &mut *terms,
-        &mut *facts,
+        &mut stage_terms,
+        &mut stage_facts,
+        terms,
+        facts,
         depth,
     )
 }
@@ -109,10 +104,10 @@ fn check_large(
     check_by(
         form,
         before,
-        &mut stage_terms[..],
-        &mut stage_facts[..],
-        &mut *terms,
-        &mut *facts,
+        &mut stage_terms,
+        &mut stage_facts,
+        terms,
+        facts,
         depth,
     )
     .unwrap()
@@ -124,10 +119,10 @@ fn check_form(form: &[u16], terms: &mut [u16], facts: &mut [u16], depth: u8) -> 
     ensures { Leaves depth form.now terms.old facts.old result terms.new facts.new }
 {
     let mut before = [0u16; DISJUNCTS];
-    form_functions::number_functions(form, &mut before[..]);
-    match check_small(form, &before[..], &mut *terms, &mut *facts, depth) {
+    form_functions::number_functions(form, &mut before);
+    match check_small(form, &before, terms, facts, depth) {
         Some(verdict) => verdict,
-        None => check_large(form, &before[..], &mut *terms, &mut *facts, depth),
+        None => check_large(form, &before, terms, facts, depth),
     }
 }
 
@@ -155,8 +150,8 @@ pub fn check(bytes: &[u8], depth: usize, terms: &mut [u16], facts: &mut [u16]) -
         });
     }
     let mut form = [0u16; FORM_LENGTH];
-    match reader::read_afresh(bytes, &mut form[..]) {
-        Ok(_) => check_form(&form[..], &mut *terms, &mut *facts, depth as u8),
+    match reader::read_afresh(bytes, &mut form) {
+        Ok(_) => check_form(&form, terms, facts, depth as u8),
         Err(refused) => Verdict::Refused(refused),
     }
 }

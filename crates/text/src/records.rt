@@ -139,7 +139,6 @@ pub fn write_refusal(refused: Refused, out: &mut [u8]) -> usize
     requires { Room (line refused_word (number_of refused.refusal ∷ refused.place ∷ [])) 0 out.old }
     ensures { Writes (line refused_word (number_of refused.refusal ∷ refused.place ∷ [])) 0 out.old out.new result }
 {
-    let number = usize::from(refused.refusal);
-    let end = write_start(b"refused", number, refused.place, out);
+    let end = write_start(b"refused", usize::from(refused.refusal), refused.place, out);
     write_newline(out, end)
 }

@@ -13,17 +13,17 @@ pub write_start-end-requires : goal.write_start-end-requires
 write_start-end-requires c =
     let a = c.args in
     let numbers : List ℕ = number_of a.refused.refusal ∷ a.refused.place ∷ [] in
-    rw c.from-number.ensures (room_first (refused_word ++ spaced numbers) (10 ∷ []) 0 a.out.now (rw (line_ended refused_word numbers) at c.requires))
+    rw c.from.ensures (room_first (refused_word ++ spaced numbers) (10 ∷ []) 0 a.out.now (rw (line_ended refused_word numbers) at c.requires))
 
 pub write_newline-requires : goal.write_newline-requires
 write_newline-requires c =
     let a = c.args in
     let numbers : List ℕ = number_of a.refused.refusal ∷ a.refused.place ∷ [] in
     let w = c.write_start-end in
-    room_behind (10 ∷ []) (rw c.from-number.ensures at w.ensures) (rw (line_ended refused_word numbers) at c.requires) w.auto.out
+    room_behind (10 ∷ []) (rw c.from.ensures at w.ensures) (rw (line_ended refused_word numbers) at c.requires) w.auto.out
 
 pub returns : goal.returns
 returns c =
     let a = c.args in
     let numbers : List ℕ = number_of a.refused.refusal ∷ a.refused.place ∷ [] in
-    rw (line_ended refused_word numbers) (writes_append (rw c.from-number.ensures at c.write_start-end.ensures) c.write_newline.ensures (omega arith))
+    rw (line_ended refused_word numbers) (writes_append (rw c.from.ensures at c.write_start-end.ensures) c.write_newline.ensures (omega arith))
