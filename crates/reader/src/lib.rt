@@ -310,7 +310,8 @@ pub fn is_whole(bytes: &[u8]) -> bool
     bytes.len() >= 4 && stated(bytes) + 4 == bytes.len()
 }
 
-// Bytes into a form of zeros that no caller sees after a refusal: then it may hold anything. There is room for it, so `ShortList` is no answer.
+// Bytes into a form of zeros that no caller sees after a refusal: then it may hold anything. There is room for it, so no
+// refusal is `ShortList`.
 pub fn read_afresh(bytes: &[u8], form: &mut [u16]) -> Transfer
     requires { form.old ≡ zeros form_length }
     ensures { ReadsAfresh bytes.now result form.new }
