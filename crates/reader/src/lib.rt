@@ -198,14 +198,14 @@ fn many_rules(
     let mut at = i;
     for k in 0..n {
         let from = k * RULE_WIDTH;
-        let read = rule(
+        at = rule(
             bytes,
             version,
             arities,
             at,
             &mut rows[from..from + RULE_WIDTH],
-        )?;
-        at = read.next;
+        )?
+        .next;
     }
     Ok(Parsed {
         value: (),
@@ -322,8 +322,7 @@ pub fn read_afresh(bytes: &[u8], form: &mut [u16]) -> Transfer
             place: 0,
         });
     }
-    let read = rule_set(bytes, form)?;
-    Ok(read.next)
+    Ok(rule_set(bytes, form)?.next)
 }
 
 // Bytes into a form (document 01: book form), which stays as it was on a refusal. A form too short is refused with `ShortList`.
