@@ -51,20 +51,16 @@ turn_stands {w} {count} {i = i} t h k m =
     let p = row_within w count i h in
     record { within = omega arith; next = omega arith }
 
--- where a loop over the columns stands: at column j, with two bytes of each number passed behind it
-pub record ColumnTurn (w count at j end : ℕ) : Type 0 where
-  pub few : j ≤ w
-  pub behind : end ≡ at + 2 * (j * count)
+-- the bytes of column j begin behind those of the columns before it: at first, and at the next
+pub column_first : (count at : ℕ) → at + 2 * (0 * count) ≡ at
+column_first count at = let z = zero-mul count in omega arith
 
-pub column_first : (w count at : ℕ) → ColumnTurn w count at 0 at
-column_first w count at = let z = zero-mul count in record { few = omega arith; behind = omega arith }
-
-pub column_next : {w count at j end : ℕ} → ColumnTurn w count at j end → j < w → ColumnTurn w count at (j + 1) (end + 2 * count)
-column_next {count = count} {j = j} t h = let b = t.behind in let e = row_next count j in record { few = omega arith; behind = omega arith }
+pub column_next : (count at j : ℕ) → at + 2 * ((j + 1) * count) ≡ at + 2 * (j * count) + 2 * count
+column_next count at j = let e = row_next count j in omega arith
 
 -- a column's bytes are within those of all
-pub column_room : {w count at j end l : ℕ} → ColumnTurn w count at j end → j < w → at + 2 * (w * count) ≤ l → end + 2 * count ≤ l
-column_room {w} {count} {j = j} t h r = let b = t.behind in let k = row_within count w j h in omega arith
+pub column_room : (w count at j l : ℕ) → j < w → at + 2 * (w * count) ≤ l → at + 2 * (j * count) + 2 * count ≤ l
+column_room w count at j l h r = let k = row_within count w j h in omega arith
 
 -- one write behind another
 pub sets_append : (xs ys out : List ℕ) (i : ℕ) → sets out i (xs ++ ys) ≡ sets (sets out i xs) (i + length xs) ys

@@ -10,7 +10,7 @@ use crate::numbers::put_number;
 use crate::shape::Shape;
 
 // Column j, each number as its difference from the one above it. A number is read anew as the one above the next: a local in its place makes
-// slower code (docs/BENCHMARKS.md, "Stores").
+// slower code (docs/BENCHMARKS.md, "Stores"). The two places go on by an addition each, as they were measured there.
 fn put_column(table: &[u16], shape: Shape, j: usize, out: &mut [u8], at: usize)
     requires { HasColumn shape j table.now at out.old }
     ensures { out.new ≡ sets out.old at (collect two_bytes (differences 0 (column shape.width shape.count table.now j))) }
@@ -33,11 +33,7 @@ pub fn put_columns(table: &[u16], shape: Shape, out: &mut [u8], at: usize)
     requires { Has shape table.now at out.old }
     ensures { out.new ≡ sets out.old at (collect two_bytes (laid shape.width shape.count table.now)) }
 {
-    let width = shape.width;
-    let count = shape.count;
-    let mut end = at;
-    for j in 0..width {
-        put_column(table, shape, j, out, end);
-        end += 2 * count;
+    for j in 0..shape.width {
+        put_column(table, shape, j, out, at + 2 * (j * shape.count));
     }
 }

@@ -95,7 +95,8 @@ fn put_head(t: usize, f: usize, out: &mut [u8])
 }
 
 // Lays t terms and f facts of the tables down in `out`, and answers how many bytes they take. Tables below their front parts, or an output
-// shorter than the largest store, are refusal 1, and then counts over the limits 26; both leave the output as it was.
+// shorter than the largest store, are refused with `ShortList`, and then counts over the limits with `Store`;
+// both leave the output as it was.
 pub fn pack(t: usize, f: usize, terms: &[u16], facts: &[u16], out: &mut [u8]) -> Transfer
     ensures { Packs t f terms.now facts.now out.old result out.new }
 {
@@ -158,7 +159,7 @@ fn is_sound(store: &[u8]) -> bool
 }
 
 // Fills the front parts of the tables with the records of a store, zeros after, and answers their counts. Tables below their front parts
-// are refusal 1, and then bytes that are no store 26; both leave the tables as they were.
+// are refused with `ShortList`, and then bytes that are no store with `Store`; both leave the tables as they were.
 pub fn unpack(store: &[u8], terms: &mut [u16], facts: &mut [u16]) -> Result<Stored, Refused>
     ensures { Unpacks store.now terms.old facts.old result terms.new facts.new }
 {

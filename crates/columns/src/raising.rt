@@ -11,7 +11,7 @@ ghost use Rattle.columns.specs.Placed.{placed, placed_all, Has, HasColumn};
 use crate::numbers::number_at;
 use crate::shape::Shape;
 
-// Column j of the table, out of the bytes from a place on.
+// Column j of the table, out of the bytes from a place on. The two places go on by an addition each, as in laying.
 fn take_column(bytes: &[u8], at: usize, shape: Shape, j: usize, table: &mut [u16])
     requires { HasColumn shape j table.old at bytes.now }
     ensures { table.new ≡ placed shape.width (sums 0 (take shape.count (numbers_of (drop at bytes.now)))) j table.old }
@@ -34,12 +34,8 @@ fn take_columns(bytes: &[u8], at: usize, shape: Shape, table: &mut [u16])
     requires { Has shape table.old at bytes.now }
     ensures { table.new ≡ placed_all shape.width (map (sums 0) (rows shape.count shape.width (numbers_of (drop at bytes.now)))) 0 table.old }
 {
-    let width = shape.width;
-    let count = shape.count;
-    let mut next = at;
-    for j in 0..width {
-        take_column(bytes, next, shape, j, table);
-        next += 2 * count;
+    for j in 0..shape.width {
+        take_column(bytes, at + 2 * (j * shape.count), shape, j, table);
     }
 }
 

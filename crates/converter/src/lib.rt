@@ -31,9 +31,9 @@ fn rewrite(bytes: &[u8], version: u8, out: &mut [u8]) -> Transfer
     ensures { Rewrites version bytes.now out.old result out.new }
 {
     let mut form = [0u16; LENGTH];
-    reader::read_afresh(bytes, &mut form[..])?;
+    reader::read_afresh(bytes, &mut form)?;
     form[VERSION] = u16::from(version);
-    writer::write(&form[..], out)
+    writer::write(&form, out)
 }
 
 // From one version to another: after every refusal the output is as it was.

@@ -1,4 +1,4 @@
--- A rule's variables as sets: which are existential, repeated in two disjuncts, or absent from one (document 01, refusals 8 and 9).
+-- A rule's variables as sets: which are existential, repeated in two disjuncts, or absent from one (document 01, `Repeated` and `Detached`).
 -- Assumes nothing.
 use mathlib.Core.Path.{◌≡◌, refl, sym, ap, ◌∙◌}
 use mathlib.Core.Bool.{Bool, true, false, ◌&&◌, ◌||◌, not, or-false}

@@ -1,4 +1,4 @@
-// The faults of a rule that is read whole (document 01, refusals 8 and 9), by sets of variables. Contracts: specs/Heads.antt.
+// The faults of a rule that is read whole (`Repeated` and `Detached`), by sets of variables. Contracts: specs/Heads.antt.
 ghost use Rattle.std.specs.Prelude.{◌≡◌, ◌||◌, eqb, false};
 ghost use Rattle.std.specs.Int.Bits.{bit_or, bit_and};
 ghost use Rattle.parsing.specs.Heads.{others, fault_of};
@@ -37,7 +37,7 @@ impl Disjuncts {
         }
     }
 
-    // The refusal of the rule that has them: 8 before 9.
+    // The refusal of the rule that has them: `Repeated` before `Detached`.
     pub fn refusal(self) -> Option<Refusal>
         ensures { result ≡ fault_of self.again self.apart }
     {

@@ -155,7 +155,7 @@ fn many_disjuncts(
     })
 }
 
-// A rule into a row of zeros, 8 and then 9 tested after its last byte.
+// A rule into a row of zeros, `Repeated` and then `Detached` tested after its last byte.
 fn rule(bytes: &[u8], version: u8, arities: &[u16], i: usize, row: &mut [u16]) -> Step<()>
     requires arities { Arities arities.now }
     requires row_value { row.old ≡ zeros rule_width }
@@ -198,14 +198,14 @@ fn many_rules(
     let mut at = i;
     for k in 0..n {
         let from = k * RULE_WIDTH;
-        let read = rule(
+        at = rule(
             bytes,
             version,
             arities,
             at,
             &mut rows[from..from + RULE_WIDTH],
-        )?;
-        at = read.next;
+        )?
+        .next;
     }
     Ok(Parsed {
         value: (),
@@ -273,11 +273,11 @@ fn after_count(bytes: &[u8], version: u8, n: usize, i: usize, form: &mut [u16]) 
     ensures { Filled none encoded (after_count bytes.now version n i) result form.new }
 {
     let mut arities = [0u16; PREDICATE_LIMIT];
-    let listed = many_arities(bytes, n, i, &mut arities[..])?;
+    let listed = many_arities(bytes, n, i, &mut arities)?;
     after_arities(bytes, version, &arities[..n], listed.next, form)
 }
 
-// Refusals 3 to 10: what follows the length, into a form of zeros.
+// What follows the length, into a form of zeros: every refusal from `Version` to `End` is of this part.
 fn rule_set(bytes: &[u8], form: &mut [u16]) -> Step<()>
     requires { form.old ≡ zeros form_length }
     ensures { Filled none encoded (format.rule_set bytes.now) result form.new }
@@ -310,7 +310,8 @@ pub fn is_whole(bytes: &[u8]) -> bool
     bytes.len() >= 4 && stated(bytes) + 4 == bytes.len()
 }
 
-// Bytes into a form of zeros that no caller sees after a refusal: then it may hold anything. There is room for it, so there is no refusal 1.
+// Bytes into a form of zeros that no caller sees after a refusal: then it may hold anything. There is room for it, so no
+// refusal is `ShortList`.
 pub fn read_afresh(bytes: &[u8], form: &mut [u16]) -> Transfer
     requires { form.old ≡ zeros form_length }
     ensures { ReadsAfresh bytes.now result form.new }
@@ -321,11 +322,10 @@ pub fn read_afresh(bytes: &[u8], form: &mut [u16]) -> Transfer
             place: 0,
         });
     }
-    let read = rule_set(bytes, form)?;
-    Ok(read.next)
+    Ok(rule_set(bytes, form)?.next)
 }
 
-// Bytes into a form (document 01: book form), which stays as it was on a refusal. A form too short is refusal 1.
+// Bytes into a form (document 01: book form), which stays as it was on a refusal. A form too short is refused with `ShortList`.
 pub fn read(bytes: &[u8], form: &mut [u16]) -> Transfer
     ensures { Reads bytes.now form.old result form.new }
 {
@@ -336,7 +336,7 @@ pub fn read(bytes: &[u8], form: &mut [u16]) -> Transfer
         });
     }
     let mut local = [0u16; LENGTH];
-    let end = read_afresh(bytes, &mut local[..])?;
+    let end = read_afresh(bytes, &mut local)?;
     form[..LENGTH].copy_from_slice(&local);
     Ok(end)
 }

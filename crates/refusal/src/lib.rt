@@ -4,7 +4,8 @@
 ghost use Rattle.std.specs.Prelude.{◌≡◌};
 ghost use Rattle.refusal.specs.Numbers.{number_of};
 
-// The reasons, in the order of their numbers.
+// The reasons, in the order of their numbers. Some numbers are missing: from 15 on they belong to functions that came with later requests
+// (18 is of depths, 26 of stores) or are not built yet.
 #[derive(Clone, Copy, Debug, PartialEq, Eq)]
 pub enum Refusal {
     // a list that the caller lends is too short

@@ -97,7 +97,7 @@ fn put_variables(form: &[u16], n: usize, at: usize, i: usize, out: &mut [u8]) ->
     let mut end = i;
     for k in 0..n {
         let variable = put(number(form, at + k), 0, 7, Refusal::Symbol, end, out)?;
-        set = set | 1 << variable.value;
+        set |= 1 << variable.value;
         end = variable.next;
     }
     Ok(Parsed {
@@ -138,7 +138,7 @@ fn put_many_atoms(
     let mut end = i;
     for k in 0..count {
         let atom = put_atom(form, version, n, atom_place(group, k), end, out)?;
-        set = set | atom.value;
+        set |= atom.value;
         end = atom.next;
     }
     Ok(Parsed {
@@ -202,7 +202,7 @@ fn put_many_disjuncts(
     })
 }
 
-// A rule, 8 and then 9 tested after its last byte.
+// A rule, `Repeated` and then `Detached` tested after its last byte.
 fn put_rule(form: &[u16], version: u8, n: usize, rule: usize, i: usize, out: &mut [u8]) -> Step<()>
     requires declared { Declared form.now version n }
     requires fits { Fits rule rule_width i rule_room out.old }
@@ -221,13 +221,13 @@ fn put_rule(form: &[u16], version: u8, n: usize, rule: usize, i: usize, out: &mu
         count.next,
         out,
     )?;
-    if let Some(refusal) = head.value {
-        return Err(Refused { refusal, place: i });
+    match head.value {
+        Some(refusal) => Err(Refused { refusal, place: i }),
+        None => Ok(Parsed {
+            value: (),
+            next: head.next,
+        }),
     }
-    Ok(Parsed {
-        value: (),
-        next: head.next,
-    })
 }
 
 // count rules.
@@ -317,19 +317,19 @@ fn put_length(end: usize, out: &mut [u8])
 }
 
 // The bytes of the rule set that a form holds (document 01: book form); on a refusal the list stays as it was. A list shorter than these
-// bytes is refusal 1.
+// bytes is refused with `ShortList`.
 pub fn write(form: &[u16], out: &mut [u8]) -> Transfer
     ensures { WritesBytes form.now out.old result out.new }
 {
     let mut local = [0u8; BYTES_ROOM];
-    let end = put_content(form, &mut local[..])?.next;
+    let end = put_content(form, &mut local)?.next;
     if out.len() < end {
         return Err(Refused {
             refusal: Refusal::ShortList,
             place: 0,
         });
     }
-    put_length(end, &mut local[..]);
+    put_length(end, &mut local);
     out[..end].copy_from_slice(&local[..end]);
     Ok(end)
 }

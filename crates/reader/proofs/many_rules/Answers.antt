@@ -14,12 +14,12 @@ rule-requires-clause-row_value c = rows_lent c.loop-k.invariant c.requires.n_le_
 
 pub loop-k-preserved : goal.loop-k-preserved
 loop-k-preserved c =
-    rows_more c.loop-k.invariant c.requires.n_le_rule_limit.1 _ c.rule.auto.row none _ tt (omega arith) (omega arith) c.in_ok-read.ensures
+    rows_more c.loop-k.invariant c.requires.n_le_rule_limit.1 _ c.rule.auto.row none _ tt (omega arith) (omega arith) c.in_ok-at.ensures
     (λ r e rs m. tt)
 
-pub returns-in_err-read : goal.returns-in_err-read
-returns-in_err-read c =
-    rw (handed_on c.from_residual.ensures.1) (rows_failed c.loop-k.invariant c.requires.n_le_rule_limit.1 none _ _ _ _ _ (omega arith) c.in_err-read.ensures)
+pub returns-in_err-at : goal.returns-in_err-at
+returns-in_err-at c =
+    rw (handed_on c.from_residual.ensures.1) (rows_failed c.loop-k.invariant c.requires.n_le_rule_limit.1 none _ _ _ _ _ (omega arith) c.in_err-at.ensures)
 
 pub returns : goal.returns
 returns c = rows_finished c.loop-k.invariant c.requires.n_le_rule_limit.1 _ _ (λ rs m. refl) (omega arith)

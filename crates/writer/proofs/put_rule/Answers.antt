@@ -31,9 +31,9 @@ returns-in-Some-clause-written c =
     let head = rw c.from.ensures at c.in_ok-head.ensures.written in
     rule_written _ _ _ _ _ _ _ _ c.number.ensures _ (omega arith) _ c.in_ok-body.ensures.written _ _ _ _ n.written n.taken.0 (λ b x. heads_unsound b _ _ _ _ _ _ _ (head b x) _ _ c.in-Some.is)
 
-pub returns-clause-written : goal.returns-clause-written
-returns-clause-written c =
+pub returns-in-None-clause-written : goal.returns-in-None-clause-written
+returns-in-None-clause-written c =
     let e = c.group_place.ensures in
     let n = c.in_ok-count.ensures in
     let head = rw c.from.ensures at c.in_ok-head.ensures.written in
-    rule_written _ _ _ _ _ _ _ _ c.number.ensures _ (omega arith) _ c.in_ok-body.ensures.written _ _ _ _ n.written n.taken.0 (λ b x. heads_sound b _ _ _ _ _ _ _ (head b x) c.in_default.is)
+    rule_written _ _ _ _ _ _ _ _ c.number.ensures _ (omega arith) _ c.in_ok-body.ensures.written _ _ _ _ n.written n.taken.0 (λ b x. heads_sound b _ _ _ _ _ _ _ (head b x) c.in-None.is)

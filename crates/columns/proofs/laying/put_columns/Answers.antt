@@ -1,10 +1,9 @@
 -- `columns::laying::put_columns` meets its contract. The loop's invariant: the columns that are left, written from here on, make the whole.
 -- Assumes nothing.
-use mathlib.Core.Path.{◌≡◌, refl, sym, ap, ◌∙◌}
+use mathlib.Core.Path.{◌≡◌, refl, sym, ap₂, ◌∙◌}
 use mathlib.Core.List.{List}
-use Prim.Native.Nat.{ℕ, ◌+◌, ◌-◌, ◌*◌, ◌≤◌}
+use Prim.Native.Nat.{ℕ, ◌+◌, ◌-◌, ◌*◌}
 use native.Mathlib.Omega.{arith}
-use lib.ListN.{length}
 use lib.Seq.{sets}
 use Rattle.columns_model.specs.Columns.{columns, laid}
 use Rattle.columns.proofs.ColumnsLeft.{column_first, column_next, column_room, columns_left, columns_done, columns_step}
@@ -15,9 +14,8 @@ loop-j-init c =
     let a = c.args in
     let n : a.shape.width - 0 ≡ a.shape.width = omega arith in
     record {
-      turn = column_first a.shape.width a.shape.count a.at;
       long = refl;
-      left = ap (λ (k : ℕ). sets a.out.now a.at (columns_left a.table.now a.shape.width a.shape.count k 0)) n;
+      left = ap₂ (λ (i k : ℕ). sets a.out.now i (columns_left a.table.now a.shape.width a.shape.count k 0)) (column_first a.shape.count a.at) n;
     }
 
 pub put_column-requires : goal.put_column-requires
@@ -25,14 +23,14 @@ put_column-requires c =
     record {
       records = c.requires.records;
       column = c.loop-j-test.true;
-      room = column_room c.loop-j.invariant.turn c.loop-j-test.true (let p = c.requires.room in let l = c.loop-j.invariant.long in omega arith);
+      room = column_room c.args.shape.width c.args.shape.count c.args.at c.loop-j.j _ c.loop-j-test.true (let p = c.requires.room in let l = c.loop-j.invariant.long in omega arith);
     }
 
-pub overflow_mul-end : goal.overflow_mul-end
-overflow_mul-end c = let h : c.loop-j.end + 2 * c.args.shape.count ≤ length c.loop-j.out = column_room c.loop-j.invariant.turn c.loop-j-test.true (let p = c.requires.room in let l = c.loop-j.invariant.long in omega arith) in omega arith
+pub overflow_mul-j : goal.overflow_mul-j
+overflow_mul-j c = let h = column_room _ _ _ _ _ c.loop-j-test.true c.requires.room in omega arith
 
-pub overflow_add-end : goal.overflow_add-end
-overflow_add-end c = let h : c.loop-j.end + 2 * c.args.shape.count ≤ length c.loop-j.out = column_room c.loop-j.invariant.turn c.loop-j-test.true (let p = c.requires.room in let l = c.loop-j.invariant.long in omega arith) in omega arith
+pub overflow_add-at : goal.overflow_add-at
+overflow_add-at c = let h = column_room _ _ _ _ _ c.loop-j-test.true c.requires.room in omega arith
 
 pub loop-j-preserved : goal.loop-j-preserved
 loop-j-preserved c =
@@ -41,12 +39,11 @@ loop-j-preserved c =
     let w : ℕ = a.shape.width in
     let count : ℕ = a.shape.count in
     let j : ℕ = c.loop-j.j in
-    let end : ℕ = c.loop-j.end in
+    let end : ℕ = a.at + 2 * (j * count) in
     record {
-      turn = column_next v.turn c.loop-j-test.true;
       long = c.put_column.auto.out ∙ v.long;
       left =
-          ap (λ (o : List ℕ). sets o (end + 2 * count) (columns_left a.table.now w count (w - (j + 1)) (j + 1))) c.put_column.ensures
+          ap₂ (λ (o : List ℕ) (i : ℕ). sets o i (columns_left a.table.now w count (w - (j + 1)) (j + 1))) c.put_column.ensures (column_next count a.at j)
           ∙ columns_step a.table.now w count (w - j) (w - (j + 1)) j c.loop-j.out end (omega arith)
           ∙ v.left;
     }
@@ -59,4 +56,4 @@ unfolding laid columns
 returns c =
     let a = c.args in
     let l = c.loop-j in
-    sym (columns_done a.table.now a.shape.width a.shape.count (a.shape.width - l.j) l.j l.out l.end (omega arith)) ∙ l.invariant.left
+    sym (columns_done a.table.now a.shape.width a.shape.count (a.shape.width - l.j) l.j l.out (a.at + 2 * (l.j * a.shape.count)) (omega arith)) ∙ l.invariant.left
