@@ -73,9 +73,8 @@ fn each_atom<T: Copy, F: Fn(&[u16], usize) -> T>(form: &[u16], at: usize, none: 
     requires takes { (p : ℕ) → AtomAt form.now p → F.pre of form p }
     ensures { Each (λ k. Returned (F.post of) form.now (atom_place at k)) (length (group_of form.now at)) none result }
 {
-    let n = group_count(form, at);
     let mut each = [none; 4];
-    for k in 0..n {
+    for k in 0..group_count(form, at) {
         each[k] = of(form, atom_place(at, k));
     }
     each
@@ -121,11 +120,9 @@ fn atoms_at(form: &[u16], at: usize) -> Atoms
     requires { GroupAt form.now at }
     ensures { result ≡ atoms_of (group_of form.now at) }
 {
-    let rows = rows_at(form, at);
-    let arities = arities_at(form, at);
     Atoms {
-        rows,
-        arities,
+        rows: rows_at(form, at),
+        arities: arities_at(form, at),
         count: group_count(form, at),
     }
 }
