@@ -58,10 +58,9 @@ fn row_at(form: &[u16], at: usize) -> [u16; 5]
     requires { AtomAt form.now at }
     ensures { result ≡ atom_row (atom_of form.now at) }
 {
-    let n = arity_at(form, at);
     let mut row = [0u16; 5];
     row[0] = form[at];
-    for k in 0..n {
+    for k in 0..arity_at(form, at) {
         row[k + 1] = form[at + 1 + k];
     }
     row
@@ -91,9 +90,8 @@ fn each_disjunct<T: Copy, F: Fn(&[u16], usize) -> T>(
     requires takes { (g : ℕ) → GroupAt form.now g → F.pre of form g }
     ensures { Each (λ d. Returned (F.post of) form.now (disjunct_place i d)) (length (rule_of form.now i).head) none result }
 {
-    let n = disjunct_count(form, i);
     let mut each = [none; 4];
-    for d in 0..n {
+    for d in 0..disjunct_count(form, i) {
         each[d] = of(form, disjunct_group(form, i, d));
     }
     each
