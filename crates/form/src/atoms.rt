@@ -58,10 +58,9 @@ fn row_at(form: &[u16], at: usize) -> [u16; 5]
     requires { AtomAt form.now at }
     ensures { result ≡ atom_row (atom_of form.now at) }
 {
-    let n = arity_at(form, at);
     let mut row = [0u16; 5];
     row[0] = form[at];
-    for k in 0..n {
+    for k in 0..arity_at(form, at) {
         row[k + 1] = form[at + 1 + k];
     }
     row
@@ -73,9 +72,8 @@ fn each_atom<T: Copy, F: Fn(&[u16], usize) -> T>(form: &[u16], at: usize, none: 
     requires takes { (p : ℕ) → AtomAt form.now p → F.pre of form p }
     ensures { Each (λ k. Returned (F.post of) form.now (atom_place at k)) (length (group_of form.now at)) none result }
 {
-    let n = group_count(form, at);
     let mut each = [none; 4];
-    for k in 0..n {
+    for k in 0..group_count(form, at) {
         each[k] = of(form, atom_place(at, k));
     }
     each
@@ -92,9 +90,8 @@ fn each_disjunct<T: Copy, F: Fn(&[u16], usize) -> T>(
     requires takes { (g : ℕ) → GroupAt form.now g → F.pre of form g }
     ensures { Each (λ d. Returned (F.post of) form.now (disjunct_place i d)) (length (rule_of form.now i).head) none result }
 {
-    let n = disjunct_count(form, i);
     let mut each = [none; 4];
-    for d in 0..n {
+    for d in 0..disjunct_count(form, i) {
         each[d] = of(form, disjunct_group(form, i, d));
     }
     each
@@ -121,11 +118,9 @@ fn atoms_at(form: &[u16], at: usize) -> Atoms
     requires { GroupAt form.now at }
     ensures { result ≡ atoms_of (group_of form.now at) }
 {
-    let rows = rows_at(form, at);
-    let arities = arities_at(form, at);
     Atoms {
-        rows,
-        arities,
+        rows: rows_at(form, at),
+        arities: arities_at(form, at),
         count: group_count(form, at),
     }
 }

@@ -25,8 +25,7 @@ pub fn arity(form: &[u16], p: usize) -> usize
     requires { Held form.now × (p < length (arities_of form.now)) }
     ensures { result ≡ get_or (arities_of form.now) p 0 }
 {
-    let at = arity_place(p);
-    usize::from(form[at])
+    usize::from(form[arity_place(p)])
 }
 
 // How many atoms the group at a place has.
@@ -66,8 +65,7 @@ pub fn disjunct_count(form: &[u16], i: usize) -> usize
     requires { Held form.now × (i < length (rules_of form.now)) }
     ensures { result ≡ length (rule_of form.now i).head }
 {
-    let at = rule_place(i);
-    usize::from(form[at])
+    usize::from(form[rule_place(i)])
 }
 
 // How many atoms disjunct `d` of rule `i` has.

@@ -42,12 +42,7 @@ fn place_of(before: &[u16], n: usize, f: u16) -> usize
     requires { (1 ≤ n) × (n ≤ length before.now) × (get_or before.now 0 0 < f) }
     ensures { (result < n) × (get_or before.now result 0 < f) × (result + 1 < n → f ≤ get_or before.now (result + 1) 0) }
 {
-    for j in 1..n {
-        if f <= before[j] {
-            return j - 1;
-        }
-    }
-    n - 1
+    (1..n).find(|&j| f <= before[j]).unwrap_or(n) - 1
 }
 
 // A rule and one of its disjuncts.

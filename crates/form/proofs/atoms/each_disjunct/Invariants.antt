@@ -5,6 +5,6 @@ use Rattle.form.proofs.atoms.each_disjunct.Given as goal
 
 abbrev pub invariant-loop-d : goal.invariant-loop-d
 invariant-loop-d g l = record {
-  few : l.n ≤ 4;
+  few : l.d-end ≤ 4;
   given : Each (λ d. Returned (goal.F-post g l.of) l.form (disjunct_place l.i d)) l.d l.fn.none l.each;
 }

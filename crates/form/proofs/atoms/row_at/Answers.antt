@@ -14,7 +14,7 @@ pub loop-k-init : goal.loop-k-init
 loop-k-init c =
     let form = c.args.form.now in
     let at = c.args.at in
-    record { few = omega (arith, c.arity_at-n.ensures, few_variables form at c.requires); front = row_first form (at + 1) (get_or form at 0) }
+    record { few = omega (arith, c.arity_at-k-end.ensures, few_variables form at c.requires); front = row_first form (at + 1) (get_or form at 0) }
 
 pub loop-k-preserved : goal.loop-k-preserved
 loop-k-preserved c =
@@ -31,5 +31,5 @@ loop-k-preserved c =
 pub returns : goal.returns
 returns c =
     let form = c.args.form.now in
-    let all : c.loop-k.k ≡ get_or (arities_of form) (get_or form c.args.at 0) 0 = omega (arith, c.arity_at-n.ensures, count_variables form c.args.at) in
+    let all : c.loop-k.k ≡ get_or (arities_of form) (get_or form c.args.at 0) 0 = omega (arith, c.arity_at-k-end.ensures, count_variables form c.args.at) in
     c.loop-k.invariant.front ∙ row_last form c.args.at c.loop-k.k all

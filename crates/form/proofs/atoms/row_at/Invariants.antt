@@ -11,6 +11,6 @@ use Rattle.form.proofs.atoms.row_at.Given as goal
 
 abbrev pub invariant-loop-k : goal.invariant-loop-k
 invariant-loop-k l = record {
-  few : l.n ≤ 4;
+  few : l.k-end ≤ 4;
   front : l.row ≡ filled fact_width 0 (get_or l.form l.at 0 ∷ numbers_from l.form (l.at + 1) l.k);
 }

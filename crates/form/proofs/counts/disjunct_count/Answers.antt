@@ -6,16 +6,16 @@ use lib.ListN.{get_or}
 use Rattle.form.proofs.Places.{count_disjuncts, rule_below}
 use Rattle.form.proofs.counts.disjunct_count.Goals as goal
 
-pub rule_place-at-requires : goal.rule_place-at-requires
-rule_place-at-requires c = omega (arith, rule_below c.requires)
+pub rule_place-requires : goal.rule_place-requires
+rule_place-requires c = omega (arith, rule_below c.requires)
 
-pub offset_bounds-form-at : goal.offset_bounds-form-at
-offset_bounds-form-at c = omega (arith, rule_below c.requires)
+pub offset_bounds-form-rule_place : goal.offset_bounds-form-rule_place
+offset_bounds-form-rule_place c = omega (arith, rule_below c.requires)
 
-pub bounds-form-at : goal.bounds-form-at
-bounds-form-at c = omega (arith, rule_below c.requires)
+pub bounds-form-rule_place : goal.bounds-form-rule_place
+bounds-form-rule_place c = omega (arith, rule_below c.requires)
 
 pub returns : goal.returns
 returns c =
     let form = c.args.form.now in
-    c.from.ensures ∙ ap (λ (p : ℕ). get_or form p 0) c.rule_place-at.ensures ∙ sym (count_disjuncts form c.args.i c.requires.1)
+    c.from.ensures ∙ ap (λ (p : ℕ). get_or form p 0) c.rule_place.ensures ∙ sym (count_disjuncts form c.args.i c.requires.1)
