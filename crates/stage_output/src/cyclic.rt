@@ -43,10 +43,10 @@ fn is_cyclic(terms: &[u16], ground: Ground, row: [u16; 10]) -> bool
 {
     let mut marks: [u8; TERM_LIMIT] = [0; TERM_LIMIT];
     // its function stands once above its arguments
-    tables::raise_arguments(&row[..], 0, 1, &mut marks[..]);
+    tables::raise_arguments(&row, 0, 1, &mut marks);
     // no term behind the greatest argument stands in one
     let count = reach(row);
-    tables::nests_in_marked(terms, count, row[0], ground.depth, &mut marks[..])
+    tables::nests_in_marked(terms, count, row[0], ground.depth, &mut marks)
 }
 
 // A cyclic row, if one was found, and the Skolem function that was tested last, 0 if none was.

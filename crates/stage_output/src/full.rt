@@ -22,7 +22,7 @@ fn none_full_of(terms: &[u16], left: Ground, f: u16) -> bool
 {
     // as if `f` stood once above each term
     let mut marks: [u8; TERM_LIMIT] = [1; TERM_LIMIT];
-    !tables::nests_in_marked(terms, left.terms, f, left.depth, &mut marks[..])
+    !tables::nests_in_marked(terms, left.terms, f, left.depth, &mut marks)
 }
 
 // Whether no term is full for one of the `count` Skolem functions numbered behind `before`.

@@ -37,12 +37,7 @@ fn is_existential_free(form: &[u16], i: usize) -> bool
     ensures { result ≡ all (existential_free (rule_of form.now i)) (rule_of form.now i).head }
 {
     let count = form::counts::disjunct_count(form, i);
-    for d in 0..count {
-        if form_variables::skolem_count(form, i, d) != 0 {
-            return false;
-        }
-    }
-    true
+    (0..count).all(|d| form_variables::skolem_count(form, i, d) == 0)
 }
 
 // Whether the trigger is blocked with ⋆ outside a set.
@@ -59,11 +54,10 @@ fn blocked_outside(
     ensures { result ≡ is_blocked (test (entries (decoded form.now)) (entry_of form.now i) (rows 10 left.terms terms.now) (chosen_terms form.now i (starred set trigger))) }
 {
     let least = starred(set, trigger);
-    match blocking::test(form, before, i, least, terms, left.terms) {
-        blocking::Outcome::Over => false,
-        blocking::Outcome::Blocked => true,
-        blocking::Outcome::Free => false,
-    }
+    matches!(
+        blocking::test(form, before, i, least, terms, left.terms),
+        blocking::Outcome::Blocked
+    )
 }
 
 // Whether a trigger of a rule without existential variables is blocked for the variables of one disjunct that has not the whole frontier.

@@ -7,9 +7,10 @@ pub fn starred(set: u8, trigger: [u16; 8]) -> [u16; 8]
     ensures { result ≡ starred set trigger }
 {
     let mut row = [0u16; 8];
-    for v in 0..8 {
-        if form_variables::contains(set, v as u8) {
-            row[v] = trigger[v];
+    for v in 0u8..8 {
+        if form_variables::contains(set, v) {
+            let at = usize::from(v);
+            row[at] = trigger[at];
         }
     }
     row

@@ -24,7 +24,8 @@ size_of-requires c = (c.requires.ordered, omega (arith, c.from.ensures, below (g
 pub overflow_sub-cost : goal.overflow_sub-cost
 overflow_sub-cost c =
     let b = below (goal.at.overflow_sub-cost c).Then-contains in
-    omega (arith, c.size_of.ensures.0, c.requires.bounding.1 c.from.result (omega (arith, c.from.ensures, b)))
+    let at = c.from-term.ensures ∙ ap (λ (v : ℕ). get_or c.args.assignment v 0) c.from.ensures in
+    omega (arith, c.size_of.ensures.0, c.requires.bounding.1 c.from-term.result (omega (arith, at, b)))
 
 pub loop-v-preserved-then-cost-left : goal.loop-v-preserved-then-cost-left
 loop-v-preserved-then-cost-left c =
@@ -32,7 +33,7 @@ loop-v-preserved-then-cost-left c =
     let l = c.loop-v in
     let a = c.args in
     let b = c.requires.bounding.1 (get_or a.assignment (l.v - 1) 0) (below (goal.at.loop-v-preserved-then-cost-left c).Then-contains) in
-    let size = d.ensures.0 ∙ ap (λ (k : ℕ). min (size_at a.terms.now k) 65) c.from.ensures in (
+    let size = d.ensures.0 ∙ ap (λ (k : ℕ). min (size_at a.terms.now k) 65) (c.from-term.ensures ∙ ap (λ (v : ℕ). get_or a.assignment v 0) c.from.ensures) in (
       omega arith,
       one_less a.terms.now a.set a.most a.assignment l.why (l.v - 1) d.result l.left (omega (arith, l.invariant.0, c.loop-v-test.true))
           (sym c.contains.ensures ∙ c.if-contains.true) size (omega (arith, size, b)) c.if-cost-left.true l.invariant.1,

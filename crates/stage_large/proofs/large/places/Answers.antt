@@ -3,7 +3,7 @@
 use mathlib.Core.Path.{◌≡◌, refl, sym, ap, ◌∙◌, subst}
 use Prim.Native.Nat.{ℕ, min}
 use native.Mathlib.Omega.{arith}
-use lib.ListN.{length}
+use lib.ListN.{length, get_or}
 use Rattle.tables.specs.Terms.{size_at}
 use Rattle.stage_large.specs.Large.{Measured}
 use Rattle.stage_large.proofs.Places.{places_before, places_none, places_with, places_without, places_all}
@@ -32,7 +32,7 @@ loop-v-preserved c =
     elim c.if-contains.branch [
       | then-contains w ↦
           let d = w.size_of-sum in
-          let size = d.ensures.0 ∙ ap (λ (k : ℕ). min (size_at a.terms.now k) 65) w.from.ensures in
+          let size = d.ensures.0 ∙ ap (λ (k : ℕ). min (size_at a.terms.now k) 65) (w.from-term.ensures ∙ ap (λ (v : ℕ). get_or a.assignment v 0) w.from.ensures) in
           let e = places_with a.terms.now a.set a.assignment c.loop-v.v h (sym c.contains.ensures ∙ w.if-contains.true) in (
             omega (arith, h),
             omega (arith, i.1, d.ensures.0, w.sum-is),

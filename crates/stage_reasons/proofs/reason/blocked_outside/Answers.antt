@@ -1,5 +1,6 @@
 -- `stage_reasons::reason::blocked_outside` meets its contract, case by case. Assumes nothing.
-use mathlib.Core.Path.{◌≡◌, sym, ap, ◌∙◌, subst}
+use mathlib.Core.Path.{◌≡◌, refl, sym, ap, ◌∙◌, subst}
+use mathlib.Core.Bool.{false}
 use mathlib.Core.List.{List}
 use Prim.Native.Nat.{ℕ}
 use Rattle.model.specs.Rules.{entries}
@@ -10,6 +11,7 @@ use Rattle.tables.specs.Rows.{rows}
 use Rattle.blocking.specs.Start.{chosen_terms, Testing}
 use Rattle.blocking.specs.Outcome.{outcome_of}
 use Rattle.blocking.specs.declared.Outcome.{Outcome as Said}
+use Rattle.blocking.specs.declared.Outcome.TheVariants.{Over, Blocked, Free}
 use Rattle.stage_reasons.specs.Starred.{starred}
 use Rattle.stage_reasons.specs.Reason.{is_blocked}
 use Rattle.stage_reasons.proofs.reason.blocked_outside.Goals.{After-test}
@@ -33,14 +35,17 @@ asked c =
     ∙ ap (λ (xs : List ℕ).
     test (entries (decoded c.args.form.now)) (entry_of c.args.form.now c.args.i) (rows 10 c.args.left.terms c.args.terms.now) (chosen_terms c.args.form.now c.args.i xs)) c.starred-least.ensures
 
-pub returns-in-Over : goal.returns-in-Over
-unfolding is_blocked
-returns-in-Over c = answer (asked (goal.at.returns-in-Over c).After-test) c.in-Over.is
-
 pub returns-in-Blocked : goal.returns-in-Blocked
 unfolding is_blocked
 returns-in-Blocked c = answer (asked (goal.at.returns-in-Blocked c).After-test) c.in-Blocked.is
 
-pub returns-in-Free : goal.returns-in-Free
+-- a test that does not answer Blocked
+other : (t : Said) → (t ≡ Blocked → ⊥) → is_blocked (outcome_of t) ≡ false
 unfolding is_blocked
-returns-in-Free c = answer (asked (goal.at.returns-in-Free c).After-test) c.in-Free.is
+other Over h = refl
+other Blocked h = absurd (h refl)
+other Free h = refl
+
+pub returns-in_default : goal.returns-in_default
+returns-in_default c =
+    sym (other c.test.result c.in_default.not-Blocked) ∙ ap is_blocked (asked (goal.at.returns-in_default c).After-test)

@@ -1,8 +1,9 @@
 -- `stage_reasons::stars::starred` meets its contract. The loop's invariant: the row is the starred trigger as far as it came. Assumes nothing.
-use mathlib.Core.Path.{sym, ◌∙◌, subst}
+use mathlib.Core.Path.{sym, ap, ◌∙◌, subst}
 use mathlib.Core.List.{List}
 use Prim.Native.Nat.{ℕ, ◌+◌}
 use native.Mathlib.Omega.{arith}
+use lib.ListN.{get_or, set}
 use Rattle.stage_reasons.proofs.Starred.{StarredTo, starred_none, starred_all_is, starred_with, starred_without}
 use Rattle.stage_reasons.proofs.stars.starred.Goals.{then-contains, else-contains}
 use Rattle.stage_reasons.proofs.stars.starred.Goals as goal
@@ -15,12 +16,12 @@ loop-v-preserved c =
     let a = c.args in
     let v = c.loop-v.v in
     elim c.if-contains.branch [
-      | then-contains w ↦ subst (λ (row : List ℕ). StarredTo a.set a.trigger row (v + 1)) (sym w.row-is) (starred_with a.set a.trigger v c.loop-v-test.true c.loop-v.invariant (sym c.contains.ensures ∙ w.if-contains.true))
+      | then-contains w ↦ subst (λ (row : List ℕ). StarredTo a.set a.trigger row (v + 1)) (sym (w.row-is ∙ ap (λ (k : ℕ). set c.loop-v.row k (get_or a.trigger k 0)) w.from-at.ensures)) (starred_with a.set a.trigger v c.loop-v-test.true c.loop-v.invariant (sym c.contains.ensures ∙ w.if-contains.true))
       | else-contains w ↦ subst (λ (row : List ℕ). StarredTo a.set a.trigger row (v + 1)) (sym w.row-is) (starred_without a.set a.trigger v c.loop-v-test.true c.loop-v.invariant (sym c.contains.ensures ∙ w.if-contains.false))
     ]
 
 pub returns : goal.returns
-returns c = let s = c in starred_all_is s.args.set s.args.trigger c.loop-v.invariant c.loop-v-test.false
+returns c = starred_all_is c.args.set c.args.trigger c.loop-v.invariant c.loop-v-test.false
 
-pub bounds-row-v : goal.bounds-row-v
-bounds-row-v c = let s = c.loop-v.invariant.size in omega arith
+pub bounds-row-at : goal.bounds-row-at
+bounds-row-at c = omega (arith, c.loop-v.invariant.size, c.from-at.ensures)
