@@ -1,5 +1,4 @@
 pub mod Same
 pub mod Columns
 pub mod Tally
-pub mod Answer
 pub mod Lent

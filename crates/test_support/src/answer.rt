@@ -1,7 +1,7 @@
-// What `read`, `write` and `print` answer. The contracts cite specs/Answer.
+// What `read`, `write` and `print` answer, by the two numbers of crate crossing. The contracts cite its specs/Numbers, and specs/Columns.
 ghost use Rattle.std.specs.Prelude.{◌≡◌, not, ◌&&◌, ◌==◌, IfOk};
 ghost use Rattle.reader.specs.Transfer.{transfer_of};
-ghost use Rattle.test_support.specs.Answer.{refusal_of, place_of};
+ghost use Rattle.crossing.specs.Numbers.{transfer_number, transfer_value};
 ghost use Rattle.test_support.specs.Columns.{two, four};
 
 use crate::{column, say};
@@ -17,18 +17,11 @@ pub struct Answer {
 }
 
 pub fn shown(t: Transfer) -> Answer
-    ensures { (result.refusal ≡ refusal_of (transfer_of t)) × (result.place ≡ place_of (transfer_of t)) }
+    ensures { (result.refusal ≡ transfer_number (transfer_of t)) × (result.place ≡ transfer_value (transfer_of t)) }
 {
-    match t {
-        Ok(n) => Answer {
-            refusal: 0,
-            place: n,
-        },
-        Err(refused) => Answer {
-            refusal: usize::from(refused.refusal),
-            place: refused.place,
-        },
-    }
+    let mut place = 0;
+    let refusal = crossing::transfer(t, &mut place);
+    Answer { refusal, place }
 }
 
 // What a case expects, from its third column on: `NN PPPP`.
