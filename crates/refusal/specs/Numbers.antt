@@ -1,7 +1,7 @@
 -- The number of each refusal (document 01, "Turned back"; document 02, C-14 and C-23). Assumes nothing.
-use Rattle.std.specs.Prelude.{ℕ}
+use Rattle.std.specs.Prelude.{ℕ, ◌≡◌}
 use Rattle.refusal.specs.declared.Refusal.{Refusal}
-use Rattle.refusal.specs.declared.Refusal.TheVariants.{ShortList, Length, Version, Predicates, Rules, Count, Symbol, Repeated, Detached, End, Places, TestFacts, StageFacts, StageTerms, Depth, Store}
+use Rattle.refusal.specs.declared.Refusal.TheVariants.{ShortList, Length, Version, Predicates, Rules, Count, Symbol, Repeated, Detached, End, Places, TestFacts, StageFacts, StageTerms, Depth, Store, Other}
 
 abbrev pub number_of : Refusal → ℕ
 number_of ShortList = 1
@@ -20,3 +20,8 @@ number_of StageFacts = 13
 number_of StageTerms = 14
 number_of Depth = 18
 number_of Store = 26
+number_of (Other spare) = spare.number
+
+-- the refusal of a number: it has that number, and no other one has it
+abbrev pub Only : ℕ → Refusal → Type 0
+Only n r = (number_of r ≡ n) × ((q : Refusal) → number_of q ≡ n → q ≡ r)

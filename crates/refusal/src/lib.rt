@@ -1,8 +1,12 @@
 // Why an answer is refused, and where. The contracts cite specs/Numbers.
 #![tactic(auto)]
 
+pub mod spare;
+
 ghost use Rattle.std.specs.Prelude.{◌≡◌};
-ghost use Rattle.refusal.specs.Numbers.{number_of};
+ghost use Rattle.refusal.specs.Numbers.{number_of, Only};
+
+use crate::spare::Spare;
 
 // The reasons, in the order of their numbers. Some numbers are missing: from 15 on they belong to functions that came with later requests
 // (18 is of depths, 26 of stores) or are not built yet.
@@ -37,6 +41,8 @@ pub enum Refusal {
     Depth,
     // too many records for a store, or bytes that are none
     Store,
+    // a number that none of these reasons has, as of a request that is not built yet: so every number of a byte is some refusal's
+    Other(Spare),
 }
 
 impl From<Refusal> for usize {
@@ -60,6 +66,34 @@ impl From<Refusal> for usize {
             Refusal::StageTerms => 14,
             Refusal::Depth => 18,
             Refusal::Store => 26,
+            Refusal::Other(spare) => usize::from(spare.number),
+        }
+    }
+}
+
+impl From<u8> for Refusal {
+    ghost from_gives = { Only };
+
+    #[tactic(auto, using(crate::proofs::Told::refusal_told))]
+    fn from(number: u8) -> Refusal {
+        match number {
+            1 => Refusal::ShortList,
+            2 => Refusal::Length,
+            3 => Refusal::Version,
+            4 => Refusal::Predicates,
+            5 => Refusal::Rules,
+            6 => Refusal::Count,
+            7 => Refusal::Symbol,
+            8 => Refusal::Repeated,
+            9 => Refusal::Detached,
+            10 => Refusal::End,
+            11 => Refusal::Places,
+            12 => Refusal::TestFacts,
+            13 => Refusal::StageFacts,
+            14 => Refusal::StageTerms,
+            18 => Refusal::Depth,
+            26 => Refusal::Store,
+            _ => Refusal::Other(Spare { number }),
         }
     }
 }

@@ -12,4 +12,4 @@ returns-then-v-from-clause-written c =
     ]
 
 pub returns-clause-written : goal.returns-clause-written
-returns-clause-written c = writes_within _ _ _ _ _ _ (omega arith) (omega arith) c.requires
+returns-clause-written c = writes_within _ _ _ c.args.refusal _ _ (omega arith) (omega arith) c.requires

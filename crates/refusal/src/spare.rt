@@ -1,0 +1,9 @@
+// A number that no reason has. The ghost field cites specs/Taken.
+ghost use Rattle.std.specs.Prelude.{◌≡◌, false};
+ghost use Rattle.refusal.specs.Taken.{taken};
+
+#[derive(Clone, Copy, Debug, PartialEq, Eq)]
+pub struct Spare {
+    pub number: u8,
+    ghost spare: { taken number ≡ false },
+}
