@@ -138,13 +138,13 @@ pub fn check(bytes: &[u8], depth: usize, terms: &mut [u16], facts: &mut [u16]) -
     ensures { Checks depth bytes.now terms.old facts.old result terms.new facts.new }
 {
     if terms.len() < TERMS_FRONT || facts.len() < FACTS_FRONT {
-        return Verdict::Refused(Refused {
+        return Verdict::from(Refused {
             refusal: Refusal::ShortList,
             place: 0,
         });
     }
     if !is_depth(depth) {
-        return Verdict::Refused(Refused {
+        return Verdict::from(Refused {
             refusal: Refusal::Depth,
             place: 0,
         });
@@ -152,6 +152,6 @@ pub fn check(bytes: &[u8], depth: usize, terms: &mut [u16], facts: &mut [u16]) -
     let mut form = [0u16; FORM_LENGTH];
     match reader::read_afresh(bytes, &mut form) {
         Ok(_) => check_form(&form, terms, facts, depth as u8),
-        Err(refused) => Verdict::Refused(refused),
+        Err(refused) => Verdict::from(refused),
     }
 }

@@ -27,8 +27,8 @@ fn judgement(verdict: Verdict, answer: &mut [usize; 3]) -> usize
             *answer = [stage, f, t];
             1
         }
-        Verdict::Refused(refused) => {
-            *answer = [usize::from(refused.refusal), refused.place, 0];
+        Verdict::Refused(number, place) => {
+            *answer = [number, place, 0];
             2
         }
     }

@@ -1,4 +1,7 @@
 // The answer of the check, by value. specs/Verdict says which verdict of the model each case is.
+ghost use Rattle.std.specs.Prelude.{◌≡◌};
+ghost use Rattle.judging.specs.Verdict.{refused_by};
+
 use refusal::Refused;
 
 #[derive(Clone, Copy)]
@@ -7,6 +10,14 @@ pub enum Verdict {
     Accepted(usize, usize, usize),
     // the stage that would hold a cyclic term, then the counts of facts and terms of the one before it
     Cyclic(usize, usize, usize),
-    // why the answer is refused, and where
-    Refused(Refused),
+    // the number of the refusal, and its place: any number can be told, also one that no reason has
+    Refused(usize, usize),
+}
+
+impl From<Refused> for Verdict {
+    ghost from_gives = { λ r v. v ≡ refused_by r };
+
+    fn from(refused: Refused) -> Verdict {
+        Verdict::Refused(usize::from(refused.refusal), refused.place)
+    }
 }

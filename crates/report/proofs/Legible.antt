@@ -92,7 +92,7 @@ left_legible depth b w terms₀ facts₀ as' r g (Accepted n f t) e =
     let h = accepted_held depth b w e in (fewer_terms (held_terms h terms₀ facts₀) t (omega arith), held_facts h terms₀ facts₀ as' r g)
 left_legible depth b w terms₀ facts₀ as' r g (Cyclic n f t) e =
     let h = cyclic_at_held depth b w e in (fewer_terms (held_terms h terms₀ facts₀) (suc t) (omega arith), held_facts h terms₀ facts₀ as' r g)
-left_legible depth b w terms₀ facts₀ as' r g (Refused x) e = tt
+left_legible depth b w terms₀ facts₀ as' r g (Refused n p) e = tt
 
 pub checked_legible : (depth : ℕ) (bytes terms₀ facts₀ as' : List ℕ) → Declares bytes as' → (v : Verdict) → (checked depth bytes terms₀ facts₀).verdict ≡ meant v
     → Legible as' v (checked depth bytes terms₀ facts₀).terms (checked depth bytes terms₀ facts₀).facts
@@ -105,7 +105,7 @@ checked_legible depth bytes terms₀ facts₀ as' d v e = go (course depth bytes
     refusal : (v : Verdict) (n p : ℕ) → stages.refused n p ≡ meant v → Legible as' v c.terms c.facts
     refusal (Accepted m f t) n p q = let z : ◌≡◌ {A = ℕ} 0 1 = cc in absurd (omega arith)
     refusal (Cyclic m f t) n p q = let z : ◌≡◌ {A = ℕ} 0 1 = cc in absurd (omega arith)
-    refusal (Refused x) n p q = tt
+    refusal (Refused m q') n p q = tt
 
     go : Course depth bytes terms₀ facts₀ → Legible as' v c.terms c.facts
     go (short h q) = refusal v 1 0 (sym (ap (λ (x : Checked). x.verdict) q) ∙ e)

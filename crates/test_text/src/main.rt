@@ -7,7 +7,6 @@ ghost use Rattle.judging.specs.Verdict.{meant};
 ghost use Rattle.text.specs.Legible.{Legible};
 
 use judging::verdict::Verdict;
-use refusal::{Refusal, Refused};
 use std::io;
 use std::io::Print;
 
@@ -77,21 +76,9 @@ fn widest(rt: &HostRuntime) -> io::Result<()> {
 
 fn refusals(rt: &HostRuntime) -> io::Result<()> {
     let none = [0];
-    let short = Refused {
-        refusal: Refusal::ShortList,
-        place: 0,
-    };
-    let cut = Refused {
-        refusal: Refusal::End,
-        place: INPUT_LIMIT,
-    };
-    let large = Refused {
-        refusal: Refusal::StageTerms,
-        place: usize::MAX,
-    };
-    show(rt, Verdict::Refused(short), &none, &none, &none)?;
-    show(rt, Verdict::Refused(cut), &none, &none, &none)?;
-    show(rt, Verdict::Refused(large), &none, &none, &none)
+    show(rt, Verdict::Refused(1, 0), &none, &none, &none)?;
+    show(rt, Verdict::Refused(10, INPUT_LIMIT), &none, &none, &none)?;
+    show(rt, Verdict::Refused(14, usize::MAX), &none, &none, &none)
 }
 
 fn main(rt: HostRuntime) -> io::Result<()> {

@@ -18,4 +18,4 @@ pub record LegibleFacts (arities facts : List ℕ) (f : ℕ) : Type 0 where
 abbrev pub Legible : List ℕ → Verdict → List ℕ → List ℕ → Type 0
 Legible arities (Accepted n f t) terms facts = LegibleTerms terms t × LegibleFacts arities facts f
 Legible arities (Cyclic n f t) terms facts = LegibleTerms terms (suc t) × LegibleFacts arities facts f
-Legible arities (Refused r) terms facts = Unit {0}
+Legible arities (Refused n p) terms facts = Unit {0}

@@ -33,6 +33,6 @@ pub fn write_text(
             let behind_records = write_records(arities, terms, facts, f, t, out, end);
             write_loop_line(terms, t, out, behind_records)
         }
-        Verdict::Refused(refused) => write_refusal(refused, out),
+        Verdict::Refused(number, place) => write_refusal(number, place, out),
     }
 }

@@ -2,14 +2,12 @@
 // or at its front, and answers the place behind what it wrote. The contracts cite specs/Writing, specs/Legible and specs/Lines.
 ghost use Rattle.std.specs.Prelude.{[], ◌∷◌, ◌++◌, suc};
 ghost use Rattle.model.specs.Text.{line, refused_word, term_word, fact_word, loop_word, term_numbers, fact_numbers, records};
-ghost use Rattle.refusal.specs.Numbers.{number_of};
 ghost use Rattle.text.specs.Writing.{Room, Writes};
 ghost use Rattle.text.specs.Lines.{term_lines, fact_lines};
 ghost use Rattle.text.specs.Legible.{LegibleTerms, LegibleFacts};
 ghost use Rattle.laws_tables.specs.Lines.{spaced};
 
 use crate::words::{write_newline, write_number, write_numbers, write_word};
-use refusal::Refused;
 
 // The numbers of a row of the table of terms, and of one of facts.
 const TERM_WIDTH: usize = 10;
@@ -135,10 +133,10 @@ pub fn write_header(word: &[u8], stage: usize, f: usize, t: usize, out: &mut [u8
 }
 
 // The line of a refusal: its number and its place.
-pub fn write_refusal(refused: Refused, out: &mut [u8]) -> usize
-    requires { Room (line refused_word (number_of refused.refusal ∷ refused.place ∷ [])) 0 out.old }
-    ensures { Writes (line refused_word (number_of refused.refusal ∷ refused.place ∷ [])) 0 out.old out.new result }
+pub fn write_refusal(number: usize, place: usize, out: &mut [u8]) -> usize
+    requires { Room (line refused_word (number ∷ place ∷ [])) 0 out.old }
+    ensures { Writes (line refused_word (number ∷ place ∷ [])) 0 out.old out.new result }
 {
-    let end = write_start(b"refused", usize::from(refused.refusal), refused.place, out);
+    let end = write_start(b"refused", number, place, out);
     write_newline(out, end)
 }

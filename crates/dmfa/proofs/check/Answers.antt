@@ -13,14 +13,15 @@ use Rattle.dmfa.proofs.check.Goals as goal
 pub returns-then-terms-lt-TERMS_FRONT : goal.returns-then-terms-lt-TERMS_FRONT
 returns-then-terms-lt-TERMS_FRONT c =
     let a = c.args in
-    checked_short a.depth a.bytes.now a.terms.now a.facts.now (⊎_elim inl (λ h. inr h.1) c.then-terms-lt-TERMS_FRONT.either)
+    rw c.from.ensures (checked_short a.depth a.bytes.now a.terms.now a.facts.now (⊎_elim inl (λ h. inr h.1) c.then-terms-lt-TERMS_FRONT.either))
 
 pub returns-then-not-is_depth : goal.returns-then-not-is_depth
 returns-then-not-is_depth c =
     let d = c.is_depth in
     let a = c.args in
-    checked_shallow a.depth a.bytes.now a.terms.now a.facts.now (record { terms = c.if-terms-lt-TERMS_FRONT.false; facts = c.if-facts-lt-FACTS_FRONT.false })
-    (no_depth_told a.depth (sym d.ensures ∙ c.if-not-is_depth.true))
+    rw c.from-then-not-is_depth.ensures
+    (checked_shallow a.depth a.bytes.now a.terms.now a.facts.now (record { terms = c.if-terms-lt-TERMS_FRONT.false; facts = c.if-facts-lt-FACTS_FRONT.false })
+    (no_depth_told a.depth (sym d.ensures ∙ c.if-not-is_depth.true)))
 
 pub read_afresh-requires : goal.read_afresh-requires
 unfolding zeros
@@ -50,4 +51,4 @@ returns-in-Err c =
     let a = c.args in
     let h : Fronts a.terms.now a.facts.now = record { terms = c.if-terms-lt-TERMS_FRONT.false; facts = c.if-facts-lt-FACTS_FRONT.false } in
     let d = depth_told c.args.depth (sym c.is_depth.ensures ∙ c.if-not-is_depth.false) in
-    checked_refused a.depth a.bytes.now (zeros form_length) a.terms.now a.facts.now zeros_long h d _ _ c.in-Err.ensures
+    rw c.from-in-Err.ensures (checked_refused a.depth a.bytes.now (zeros form_length) a.terms.now a.facts.now zeros_long h d _ _ c.in-Err.ensures)

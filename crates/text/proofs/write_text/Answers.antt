@@ -6,10 +6,8 @@ use Prim.Native.Nat.{ℕ, suc, ◌+◌}
 use native.Mathlib.Omega.{arith}
 use lib.ListN.{length, length-append}
 use Rattle.model.specs.Text.{line, accepted_word, cyclic_word, refused_word, loop_word, term_numbers, records, text}
-use Rattle.refusal.specs.declared.Refused.{Refused}
-use Rattle.refusal.specs.Numbers.{number_of}
 use Rattle.judging.specs.declared.verdict.Verdict.{Verdict}
-use Rattle.judging.specs.declared.verdict.Verdict.TheVariants.{Accepted, Cyclic, Refused as RefusedBy}
+use Rattle.judging.specs.declared.verdict.Verdict.TheVariants.{Accepted, Cyclic, Refused}
 use Rattle.judging.specs.Verdict.{meant}
 use Rattle.text.specs.Legible.{LegibleTerms, LegibleFacts, Legible}
 use Rattle.text.proofs.Writing.{writes_append}
@@ -54,9 +52,9 @@ module _ (arities terms facts : List ℕ) (v : Verdict) where
     legible₂ h = subst (λ (u : Verdict). Legible arities u terms facts) e h
 
   -- a refusal
-  text₃ : (r : Refused) → v ≡ RefusedBy r → told ≡ line refused_word (number_of r.refusal ∷ r.place ∷ [])
+  text₃ : (n p : ℕ) → v ≡ Refused n p → told ≡ line refused_word (n ∷ p ∷ [])
   unfolding text
-  text₃ r e = ap (λ (u : Verdict). text arities (meant u) terms facts) e
+  text₃ n p e = ap (λ (u : Verdict). text arities (meant u) terms facts) e
 
 pub write_header-end-requires : goal.write_header-end-requires
 write_header-end-requires c =
@@ -105,7 +103,7 @@ pub write_refusal-requires : goal.write_refusal-requires
 write_refusal-requires c =
     let a = c.args in
     let i = c.in-Refused in
-    let h = ap length (text₃ a.arities.now a.terms.now a.facts.now a.verdict i.refused i.is) in
+    let h = ap length (text₃ a.arities.now a.terms.now a.facts.now a.verdict i.number i.place i.is) in
     let p = c.requires.1 in
     omega arith
 
@@ -130,4 +128,4 @@ pub returns-in-Refused : goal.returns-in-Refused
 returns-in-Refused c =
     let a = c.args in
     let i = c.in-Refused in
-    rw (text₃ a.arities.now a.terms.now a.facts.now a.verdict i.refused i.is) c.write_refusal.ensures
+    rw (text₃ a.arities.now a.terms.now a.facts.now a.verdict i.number i.place i.is) c.write_refusal.ensures
