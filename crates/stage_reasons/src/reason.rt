@@ -41,6 +41,7 @@ fn is_existential_free(form: &[u16], i: usize) -> bool
 }
 
 // Whether the trigger is blocked with ⋆ outside a set.
+#[tactic(auto, unfolding(crate::specs::Reason::is_blocked))]
 fn blocked_outside(
     form: &[u16],
     before: &[u16],
