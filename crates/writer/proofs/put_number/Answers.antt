@@ -1,7 +1,8 @@
 -- `writer::put_number` meets its contract: each way out is a case of the definition. Assumes nothing.
 use mathlib.Core.Path.{◌≡◌, sym, ◌∙◌}
 use mathlib.Core.Bool.{true, false}
-use Prim.Native.Nat.{◌+◌, ◌-◌, ◌/◌, ◌%◌}
+use mathlib.Core.List.{List, [], ◌∷◌}
+use Prim.Native.Nat.{ℕ, ◌+◌, ◌-◌, ◌/◌, ◌%◌}
 use native.Mathlib.Omega.{arith}
 use Rattle.model.specs.Rules.{wide}
 use Rattle.model.specs.Format.{number_bytes}
@@ -18,13 +19,17 @@ returns-then-v-low-clause-written c =
       | then-v-low-via-else-v-low+then-high-v w ↦ number_above _ _ _ _ _ _ _ w.if-v-low.false w.if-high-v.true _
     ]
 
+-- both bytes of a number, from those of the number that was taken apart
+bytes_of : (v n : ℕ) {bs : List ℕ} → bs ≡ (n / 256) % 256 ∷ n % 256 ∷ [] → (n / 256) % 256 ≡ v / 256 → n % 256 ≡ v % 256 → bs ≡ v / 256 ∷ v % 256 ∷ []
+bytes_of v n e high low = cc
+
 pub returns-then-is_wide-clause-written : goal.returns-then-is_wide-clause-written
 unfolding number_bytes
 returns-then-is_wide-clause-written c =
     let a = c.args in
     let two : (a.i + 2) - a.i ≡ 2 = omega arith in
-    let high : (a.v / 256) % 256 ≡ a.v / 256 = omega (arith, c.ranges.v.fits) in
-    rw (c.copy_from_slice.ensures.after, c.to_be_bytes.ensures, high, two)
+    let bytes = bytes_of a.v _ c.to_be_bytes.ensures (omega (arith, c.ranges.v.fits)) (omega (arith, c.ranges.v.fits)) in
+    rw (c.copy_from_slice.ensures.after, bytes, two)
     (number_stored a.v a.i true a.version a.low a.high a.refusal a.out.now (sym c.is_wide.ensures ∙ c.if-is_wide.true) c.if-v-low.false c.if-high-v.false c.requires.1)
 
 -- one byte
