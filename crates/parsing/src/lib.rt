@@ -20,8 +20,8 @@ const NARROW_LIMIT: u16 = 64;
 
 const PREDICATE_LIMIT: u16 = 1024;
 
-// A value that was read, and where to go on. The place stands first: with a value of one byte before it, each answer takes a third longer to hand
-// back, as the bytes between the two are copied in pieces.
+// A value that was read, and where to go on. The place stands first: with a value of one byte before it the bytes between the two are copied in
+// pieces, and reading and writing take up to a third longer.
 #[derive(Clone, Copy)]
 pub struct Parsed<T> {
     pub next: usize,
