@@ -98,9 +98,9 @@ impl From<u8> for Refusal {
     }
 }
 
-// A refusal, and the place that it names.
+// A refusal, and the place that it names. The place stands first, as in `parsing::Parsed`, so that both cases of an answer lie alike.
 #[derive(Clone, Copy, Debug, PartialEq, Eq)]
 pub struct Refused {
-    pub refusal: Refusal,
     pub place: usize,
+    pub refusal: Refusal,
 }
