@@ -10,7 +10,7 @@ pub enum Verdict {
     Accepted(usize, usize, usize),
     // the stage that would hold a cyclic term, then the counts of facts and terms of the one before it
     Cyclic(usize, usize, usize),
-    // the number of the refusal, and its place: any number can be told, also one that no reason has
+    // the number of the refusal, and its place: any number can be told, also one without a name
     Refused(usize, usize),
 }
 

@@ -10,7 +10,7 @@ use Rattle.refusal.specs.declared.Refusal.TheVariants.{Other}
 use Rattle.refusal.specs.Taken.{taken}
 use Rattle.refusal.specs.Numbers.{number_of}
 
--- a number, and that no reason has it
+-- a number, and that no refusal has it by name
 abbrev Pair : Type 0
 Pair = (n : ℕ) × (taken n ≡ false)
 

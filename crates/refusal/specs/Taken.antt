@@ -1,4 +1,4 @@
--- The numbers that are some reason's (Numbers says whose). Assumes nothing.
+-- The numbers of the refusals that have a name (Numbers says whose each is). Assumes nothing.
 use Rattle.std.specs.Prelude.{ℕ, Bool, ◌&&◌, ◌||◌, eqb, leb}
 
 abbrev pub taken : ℕ → Bool

@@ -8,7 +8,7 @@ ghost use Rattle.refusal.specs.Numbers.{number_of, Only};
 
 use crate::spare::Spare;
 
-// The reasons, in the order of their numbers. Some numbers are missing: from 15 on they belong to functions that came with later requests
+// The refusals, in the order of their numbers. Some numbers are missing: from 15 on they belong to functions that came with later requests
 // (18 is of depths, 26 of stores) or are not built yet.
 #[derive(Clone, Copy, Debug, PartialEq, Eq)]
 pub enum Refusal {
@@ -41,7 +41,7 @@ pub enum Refusal {
     Depth,
     // too many records for a store, or bytes that are none
     Store,
-    // a number that none of these reasons has, as of a request that is not built yet: so every number of a byte is some refusal's
+    // a number that has no name here, as of a request that is not built yet: so every number of a byte is some refusal's
     Other(Spare),
 }
 

@@ -1,4 +1,4 @@
-// A number that no reason has. The ghost field cites specs/Taken.
+// The number of a refusal without a name. The ghost field cites specs/Taken.
 ghost use Rattle.std.specs.Prelude.{◌≡◌, false};
 ghost use Rattle.refusal.specs.Taken.{taken};
 
